@@ -16,7 +16,7 @@ use crate::held::{Held, Seat};
 use crate::reply::CReply;
 use crate::slot::Slot;
 use crate::truth::{OfHandle, surely};
-use of_memory::{Answer, Handle, Instr, RawAnswer, RunError, Script, ScriptErr, parse};
+use of_memory::{Handle, Instr, RawAnswer, RunError, Script, ScriptErr, parse};
 use of_script::{MOST_INSTRS, from_words_into, to_words};
 use std::alloc::Global;
 
@@ -49,11 +49,11 @@ fn code_of_error(error: RunError, open_code: u32, reply: &mut CReply) -> u32
     }
 }
 
-// The code of what a new call has come to; the reply gets the rest. If this weren't inlined, the
-// answer would be moved for it first.
+// The code of what a call has come to; the reply gets the rest. If this weren't inlined, the answer
+// would be moved for it first.
 #[inline(always)]
-fn code_of_run(ended: &Result<RawAnswer, RunError>, reply: &mut CReply) -> u32
-    ensures tells { HoldsOfTyped ended.now (λ a. Tells CALL_OPEN a result reply.new) }
+fn code_of_call(ended: &Result<RawAnswer, RunError>, open_code: u32, reply: &mut CReply) -> u32
+    ensures tells { HoldsOfTyped ended.now (λ a. Tells open_code a result reply.new) }
     ensures stays { LeavesReply result reply.old reply.new }
 {
     match ended {
@@ -61,7 +61,7 @@ fn code_of_run(ended: &Result<RawAnswer, RunError>, reply: &mut CReply) -> u32
             reply.tell_raw(answer);
             DONE
         }
-        Err(error) => code_of_error(*error, CALL_OPEN, reply),
+        Err(error) => code_of_error(*error, open_code, reply),
     }
 }
 
@@ -89,13 +89,15 @@ impl Seat {
     }
 
     // Goes on with the open call, for at most this many steps.
-    fn go_on(&mut self, limit: Option<u64>) -> Result<Answer, RunError>
-        ensures { GoesOn limit self.old.handle result self.new.handle }
+    fn go_on(&mut self, limit: Option<u64>) -> Result<RawAnswer, RunError>
+        ensures some { HasTyped result }
+        ensures runs { HoldsOfTyped result
+            (λ a. GoesOn limit self.old.handle a self.new.handle) }
     {
         surely::<Handle, OfHandle>(&self.handle);
         match limit {
-            Some(steps) => self.handle.go_on_within(steps),
-            None => self.handle.go_on(),
+            Some(steps) => self.handle.go_on_words_within(steps),
+            None => self.handle.go_on_words(),
         }
     }
 }
@@ -110,8 +112,8 @@ fn run_held(held: &mut Held, words: &[u64], limit: Option<u64>, reply: &mut CRep
     match held {
         // Each arm hands on what its call answers, which spares moving it.
         Held::Caller(seat) => match limit {
-            Some(steps) => code_of_run(&seat.run_within(words, steps), reply),
-            None => code_of_run(&seat.run(words), reply),
+            Some(steps) => code_of_call(&seat.run_within(words, steps), CALL_OPEN, reply),
+            None => code_of_call(&seat.run(words), CALL_OPEN, reply),
         },
         _ => EMPTY,
     }
@@ -123,13 +125,7 @@ fn go_on_held(held: &mut Held, limit: Option<u64>, reply: &mut CReply) -> u32
     ensures stays { LeavesReply result reply.old reply.new }
 {
     match held {
-        Held::Caller(seat) => match seat.go_on(limit) {
-            Ok(answer) => {
-                reply.tell(&answer);
-                DONE
-            }
-            Err(error) => code_of_error(error, NO_CALL, reply),
-        },
+        Held::Caller(seat) => code_of_call(&seat.go_on(limit), NO_CALL, reply),
         _ => EMPTY,
     }
 }

@@ -1,11 +1,12 @@
 //! A reply as C reads it.
 
-ghost use Rattle.std.specs.Prelude.{◌≡◌, ◌==◌, ◌%◌, length};
+ghost use Rattle.std.specs.Prelude.{◌≡◌, ◌==◌, ◌%◌};
 ghost use Rattle.std.specs.Bool.{then_some};
 ghost use Rattle.of_eval.specs.Reading.{marked_in};
-ghost use Rattle.of_c.specs.Replies.{given_flag, given_number, cause_number, ShowsEach};
+ghost use Rattle.of_c.specs.Replies.{given_flag, given_number, cause_number, ShowsEach, ShowsAbort};
 
-use of_memory::{Abort, Answer, Cause, RawAnswer, Reply};
+use of_eval::{reply_abort, reply_len, reply_marks};
+use of_memory::{Abort, Cause, RawAnswer, Reply};
 use of_script::MOST_INSTRS;
 
 /// A reply as C reads it.
@@ -85,7 +86,6 @@ fn write_marked(
 )
     ensures given { ShowsEach given_flag (marked_in marks cells.now) given.new }
     ensures numbers { ShowsEach given_number (marked_in marks cells.now) numbers.new }
-    ensures width { length cells.now ≡ MOST_INSTRS }
 {
     let mut rest = marks;
     for place in 0..MOST_INSTRS {
@@ -108,6 +108,17 @@ fn number_of_cause(cause: Cause) -> u32
     }
 }
 
+// The place and the number of the cause of an abort; 0 and 0 for none.
+#[inline(always)]
+fn numbers_of_abort(abort: Option<Abort>) -> (u32, u32)
+    ensures { ShowsAbort abort result.0 result.1 }
+{
+    match abort {
+        Some(Abort { place, cause }) => (u32::from(place), number_of_cause(cause)),
+        None => (0, 0),
+    }
+}
+
 impl CReply {
     ghost use Rattle.of_plan.specs.declared.answer.Answer.{Answer as TheAnswer};
     ghost use Rattle.of_memory.specs.Called.{TellsRaw};
@@ -121,28 +132,9 @@ impl CReply {
     {
         self.len = u32::from(reply.len);
         write_values(&reply.values, &mut self.given, &mut self.values);
-        match reply.abort {
-            Some(Abort { place, cause }) => {
-                self.place = u32::from(place);
-                self.cause = number_of_cause(cause);
-            }
-            None => {
-                self.place = 0;
-                self.cause = 0;
-            }
-        }
-    }
-
-    /// Writes the answer of a call.
-    #[inline(always)]
-    pub(crate) fn tell(&mut self, answer: &Answer)
-        ensures { ShowsAnswer answer.now self.new }
-    {
-        self.show(&answer.reply);
-        self.seq = answer.seq;
-        self.announced = u32::from(answer.announced);
-        self.ticket = 0;
-        self.steps = answer.steps;
+        let (place, cause) = numbers_of_abort(reply.abort);
+        self.place = place;
+        self.cause = cause;
     }
 
     /// Writes the answer of a call, whose reply is as cells hold it: a shape, and a number for each
@@ -151,12 +143,17 @@ impl CReply {
     pub(crate) fn tell_raw(&mut self, answer: &RawAnswer)
         ensures { (a : TheAnswer) → TellsRaw answer.now a → ShowsAnswer a self.new }
     {
-        let shape = answer.raw.shape;
-        self.len = shape / (1 << 16) % 32;
-        let marks = shape % (1 << 16);
-        write_marked(marks, &answer.raw.values, &mut self.given, &mut self.values);
-        self.place = shape / (1 << 21) % 32;
-        self.cause = shape / (1 << 26);
+        let raw = &answer.raw;
+        self.len = reply_len(raw);
+        write_marked(
+            reply_marks(raw),
+            &raw.values,
+            &mut self.given,
+            &mut self.values,
+        );
+        let (place, cause) = numbers_of_abort(reply_abort(raw));
+        self.place = place;
+        self.cause = cause;
         self.seq = answer.seq;
         self.announced = u32::from(answer.announced);
         self.ticket = 0;

@@ -22,6 +22,7 @@ pub mod CallSteps
 pub mod CallerSteps
 pub mod BrakeCharges
 pub mod Phases
+pub mod Lagging
 pub mod Loadings
 pub mod SpentSteps
 pub mod Schedules

@@ -31,7 +31,7 @@ unfolding newest_at
 newest_bare k a = refl
 
 -- a run does not change the operation
-run_op : {X : Type 0} (meaning : X → Meaning) (m : Machine X) → (after_run meaning m).call.op ≡ m.call.op
+pub run_op : {X : Type 0} (meaning : X → Meaning) (m : Machine X) → (after_run meaning m).call.op ≡ m.call.op
 run_op meaning m = ends ((meaning m.work).walk m.call.known m.call.op)
   where
     ends : (e : WalkEnd) → (after_read_run m.call e).op ≡ m.call.op

@@ -1,10 +1,12 @@
 -- One step of a call and a denied ask, told from wherever the call began; and what several steps come to.
-use Rattle.std.proofs.Common.{◌≡◌, ℕ, List, ◌+◌, ◌-◌, ◌<◌, ◌≤◌, refl, true, false, Option, Result, Ok, Err, OnErr, OnOk, sym, ◌∙◌, subst, arith, le_trans}
+use Rattle.std.proofs.Common.{◌≡◌, ℕ, List, ◌+◌, ◌-◌, ◌<◌, ◌≤◌, refl, true, false, Option, Result, Ok, Err, OnErr, OnOk, sym, ◌∙◌, ap, subst, arith, le_trans}
 use Rattle.of_cell.specs.declared.shape.TheConstants.{MOST_CALLERS, MOST_DATA_CELLS}
 use Rattle.of_mem.specs.Meaning.{Meaning}
-use Rattle.of_core.specs.Machine.{IsOpen}
+use Rattle.of_core.specs.Machine.{IsOpen, is_idle}
+use Rattle.of_core.specs.MachineValue.{Machine, machine_setup}
 use Rattle.of_core.specs.Bound.{bound}
 use Rattle.of_brake.specs.Stops.{HasRisen, ChargesAsk, Asked}
+use Rattle.of_row.proofs.Pasts.{prefix_self}
 use Rattle.of_row.specs.declared.row.Row.{Row}
 use Rattle.of_row.specs.Rows.{StepsMember, key_of, setup_at, row_start}
 use Rattle.of_caller.specs.declared.caller.Caller.{Caller}
@@ -59,6 +61,43 @@ gone_none meaning lawful denials left answers asks r c b s p = record {
   asked = asked_none (asks b);
   heard = refl;
 }
+
+-- an open call has made no step at first
+none_yet : {W : Type 0} (meaning : W → Meaning) (lawful : W → List ℕ → Type 0) (r : Row W) (c : Caller W) → IsCaller meaning r c → IsOpen (caller_call c).place
+    → Progress (setup_at meaning r) (lawful (key_of r).work) (row_start meaning r) (caller_call c) (sight_of c) 0 (caller_call c) (sight_of c)
+none_yet {W = W} meaning lawful r c q o = record {
+  seen = prefix_self (sight_of c).seen;
+  past = prefix_self (sight_of c).past;
+  caller = refl;
+  made = refl;
+  op = refl;
+  before = q.member.0;
+  kept = q.member.0;
+  kept_before = q.member.1;
+  kept_now = q.member.1;
+  none = λ _. (refl, refl);
+  some = λ l. absurd (omega (arith, l));
+  turns = omega arith;
+  losses = refl;
+  looks = refl;
+  since = λ l. absurd (omega (arith, l));
+  behind = λ l. absurd (omega (arith, l));
+  touched = λ l. absurd (omega (arith, l));
+  still = λ _. record {
+    open_call = o;
+    steps = omega arith;
+    within = subst (λ (x : Machine W). (caller_call c).steps < bound (machine_setup meaning x)) q.machine (q.within o);
+    kept = refl;
+  };
+  ended = λ i. absurd (let z : true ≡ false = sym (ap is_idle i) ∙ o in cc);
+}
+
+-- the steps of an open call leave its operation as it was
+pub kept_op : {W B : Type 0} (meaning : W → Meaning) (lawful : W → List ℕ → Type 0) (denials : B → ℕ) (left : B → Option (Option ℕ)) (answers asks : B → Option ℕ) (r : Row W) (c : Caller W) (b : B) (s : ℕ) (c1 : Caller W) (b1 : B) (s1 : ℕ)
+    → IsCaller meaning r c → IsOpen (caller_call c).place → LeadsOn meaning lawful denials left answers asks r c b s c1 b1 s1 → (caller_call c1).op ≡ (caller_call c).op
+kept_op meaning lawful denials left answers asks r c b s c1 b1 s1 q o on =
+    let h : HasGone meaning lawful denials left answers asks r c b s c1 b1 s1 = on c b s (gone_none meaning lawful denials left answers asks r c b s (none_yet meaning lawful r c q o)) in
+    h.progress.op
 
 -- a call that was stopped, as its result says it
 pub told_stop : {W B : Type 0} (meaning : W → Meaning) (lawful : W → List ℕ → Type 0) (denials : B → ℕ) (left : B → Option (Option ℕ)) (answers asks : B → Option ℕ) (r : Row W) (c0 : Caller W) (b0 : B) (s0 : ℕ) (c : Caller W) (b : B) (s asked : ℕ)

@@ -3,9 +3,11 @@ use Rattle.std.specs.Prelude.{◌≡◌, ℕ, ◌+◌, ◌-◌, ◌<◌, ◌≤�
 use mathlib.Core.List.{IsPrefix}
 use Rattle.of_mem.specs.Meaning.{Meaning}
 use Rattle.of_core.specs.declared.place.Outcome.{Outcome}
+use Rattle.of_core.specs.declared.place.Place.{Place}
 use Rattle.of_core.specs.Table.{Setup}
 use Rattle.of_core.specs.Machine.{CallState, IsOpen, is_idle}
-use Rattle.of_core.specs.MachineValue.{machine_setup}
+use Rattle.of_core.specs.MachineValue.{Machine, machine_setup}
+use Rattle.of_core.specs.Lagging.{at_place}
 use Rattle.of_core.specs.OwedRun.{after_run_if}
 use Rattle.of_core.specs.TableMoment.{TableStart}
 use Rattle.of_core.specs.Bound.{bound}
@@ -19,13 +21,21 @@ use Rattle.of_row.specs.Turned.{since_after}
 use Rattle.of_row.specs.declared.row.Row.{Row}
 use Rattle.of_row.specs.Rows.{key_of, setup_at, row_start}
 use Rattle.of_caller.specs.declared.caller.Caller.{Caller}
-use Rattle.of_caller.specs.Callers.{caller_call, sight_of}
+use Rattle.of_caller.specs.Callers.{IsCaller, caller_call, sight_of}
 use Rattle.of_caller.specs.CallsTold.{HasEndedWith, IsStillOpen, TellsStepsMade}
 use Rattle.of_caller.specs.Brakes.{TakesSteps, AskedFor}
 
 -- the caller; if its machine owes the run of its try, the caller after this run
 abbrev pub true_caller : {W : Type 0} → (W → Meaning) → (owed : Bool) → Caller W → Caller W
 true_caller meaning owed c = record c { machine = after_run_if meaning owed c.machine }
+
+-- the caller with this machine in place of its own
+abbrev pub with_machine : {W : Type 0} → Caller W → Machine W → Caller W
+with_machine c m = record c { machine = m }
+
+-- the true caller, if its machine lags: its call has come to the place p, after k steps more
+abbrev pub lagging_caller : {W : Type 0} → Caller W → Place → (k : ℕ) → Caller W
+lagging_caller c p k = with_machine c (at_place c.machine p k)
 
 -- n steps of a call have led from the machine m and the view v to d and w
 pub record Progress (S : Setup) (L : List ℕ → Type 0) (B : TableStart) (m : CallState) (v : View)
@@ -108,3 +118,30 @@ steps_to_go S d = left_by S d (is_idle d.place)
 
 abbrev pub steps_left : {W : Type 0} → (W → Meaning) → Caller W → ℕ
 steps_left meaning c = steps_to_go (machine_setup meaning c.machine) (caller_call c)
+
+-- what a step, or a few of them, has led to from the true caller c to the true caller c1: c1 is a
+-- caller of the row, the call goes on to it, and fewer steps are left
+pub record GoesTo {W B : Type 0} (meaning : W → Meaning) (lawful : W → List ℕ → Type 0)
+    (denials : B → ℕ) (left : B → Option (Option ℕ)) (answers asks : B → Option ℕ) (r : Row W)
+    (c : Caller W) (b : B) (s : ℕ) (c1 : Caller W) (b1 : B) (s1 : ℕ) : Type 0 where
+  pub caller : IsCaller meaning r c1
+  pub goes : LeadsOn meaning lawful denials left answers asks r c b s c1 b1 s1
+  pub falls : steps_left meaning c1 < steps_left meaning c
+
+-- the brake has denied a step of the true caller c, which is c1 now
+pub record IsDeniedAt {W B : Type 0} (meaning : W → Meaning) (lawful : W → List ℕ → Type 0)
+    (denials : B → ℕ) (left : B → Option (Option ℕ)) (answers asks : B → Option ℕ) (r : Row W)
+    (c : Caller W) (b : B) (s : ℕ) (c1 : Caller W) (b1 : B) (s1 : ℕ) : Type 0 where
+  pub caller : IsCaller meaning r c1
+  pub denied : LeadsToDenial meaning lawful denials left answers asks r c b s c1 b1 s1
+
+-- Steps of the open call have led from the caller c to the true caller c1, whose machine is still
+-- that of c: the call has come to the place p, after k steps that the machine hasn't counted.
+pub record LagsTo {W B : Type 0} (meaning : W → Meaning) (lawful : W → List ℕ → Type 0)
+    (denials : B → ℕ) (left : B → Option (Option ℕ)) (answers asks : B → Option ℕ) (r : Row W)
+    (c : Caller W) (b : B) (s : ℕ) (c1 : Caller W) (p : Place) (k : ℕ) (b1 : B) (s1 : ℕ)
+    : Type 0 where
+  pub machine : c1.machine ≡ c.machine
+  pub caller : IsCaller meaning r (lagging_caller c1 p k)
+  pub goes : LeadsOn meaning lawful denials left answers asks r c b s (lagging_caller c1 p k) b1 s1
+  pub falls : steps_left meaning (lagging_caller c1 p k) ≤ steps_left meaning c

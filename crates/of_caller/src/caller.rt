@@ -1,5 +1,6 @@
 //! One caller: it makes its calls with a member of a row.
 
+mod lagging;
 mod phases;
 mod reading;
 
@@ -127,7 +128,7 @@ impl<W: Work> Caller<W> {
         members(row.work());
         machines(row.work());
         self.machine.begin(op);
-        self.go_on(row, brake, steps)
+        self.go_to_end(op, row, brake, steps)
     }
 
     /// Goes on with the open call. The brake is asked before each step from here on, and told if
@@ -150,10 +151,36 @@ impl<W: Work> Caller<W> {
         ensures answers { HearsAnswerOnce (B.answers brake.old) (B.answers brake.new) result }
         ensures asks { AsksOf (B.asks brake.old) (B.asks brake.new) steps.old steps.new result }
     {
+        let (words, count) = self.machine.operation();
+        self.go_to_end(&words[..count], row, brake, steps)
+    }
+
+    /// Goes on with the open call, whose operation is `op`, until it is answered or stopped.
+    fn go_to_end<L: Ledger, B: Brake>(
+        &mut self,
+        op: &[u64],
+        row: &Row<W>,
+        brake: &mut B,
+        steps: &mut Steps<L>,
+    ) -> Result<Outcome, CallErr>
+        requires caller { IsCaller W.meaning row.now self.old }
+        requires open { IsOpen (caller_call self.old).place }
+        requires op { op.now ≡ (caller_call self.old).op }
+        requires few { length op.now ≤ MOST_INSTRS }
+        ensures caller { IsCaller W.meaning row.now self.new }
+        ensures told { TellsCallOf W.meaning W.lawful row.now (caller_call self.old)
+            self.old self.new steps.old steps.new result }
+        ensures denials { B.denials brake.old ≤ B.denials brake.new }
+        ensures cause { IsStop result → HasRisen (B.denials brake.old) (B.denials brake.new) }
+        ensures stop { StopsAt (B.left brake.old) result }
+        ensures left { UsesCountedSteps (B.left brake.old) (B.left brake.new) steps.old steps.new }
+        ensures answers { HearsAnswerOnce (B.answers brake.old) (B.answers brake.new) result }
+        ensures asks { AsksOf (B.asks brake.old) (B.asks brake.new) steps.old steps.new result }
+    {
         of_core::laws::machines();
         let before = self.machine.steps();
         while !self.machine.is_idle() {
-            let Ok(()) = self.go_far(row, brake, steps) else {
+            let Ok(()) = self.go_far(op, row, brake, steps) else {
                 let asked = self.machine.steps() - before + 1;
                 return Err(CallErr::Stopped { asked });
             };

@@ -10,7 +10,7 @@ use Rattle.of_mem.specs.Meaning.{Meaning, IsSoundMeaning, Agrees}
 use Rattle.of_mem.specs.CellMap.{value_for}
 use Rattle.of_mem.specs.Part.{overlaid}
 use Rattle.of_core.specs.declared.place.Place.{Place}
-use Rattle.of_core.specs.declared.place.Place.TheVariants.{RaiseLog, TryCurrent, TryRequest, TryCell, LoadCurrent, CopyLog, LookAgain, LoadAnnouncement, LoadTicket, LoadScript, LoadCell, RaiseClosed}
+use Rattle.of_core.specs.declared.place.Place.TheVariants.{RaiseOld, TryCurrent, TryRequest, TryCell, LoadCurrent, CopyLog, LookAgain, LoadAnnouncement, LoadTicket, LoadScript, LoadCell, RaiseClosed}
 use Rattle.of_core.specs.Table.{most_entries, Setup, setup_of, first_operation_cell, ticket_cell, data_word}
 use Rattle.of_core.specs.Machine.{CallState, no_call, log_words, with_cell_known}
 use Rattle.of_core.specs.Steps.{want, want_at, with_log_word_copied, IsFoundBy}
@@ -89,8 +89,8 @@ module _ (S : Setup) (Lawful : List ℕ → Type 0) (m : CallState) (found : ℕ
   copy_count x q = rw (found_at (CopyLog x) q) (copied_count h.good.core h.in_range m x (place_at (CopyLog x) q).copies)
 
   -- the log that is stored has room
-  pub store_few : (x : ℕ) → m.place ≡ RaiseLog x → length m.log ≤ most_entries S
-  store_few x q = (place_at (RaiseLog x) q).storing.stored.over.over.is_log.few
+  pub store_few : m.place ≡ RaiseOld → length m.log ≤ most_entries S
+  store_few q = (place_at RaiseOld q).scan.over.is_log.few
 
   pub look_log : m.place ≡ LookAgain → found ≡ pack m.seq 0 → (es : List (ℕ × ℕ)) × (m.copy ≡ log_words es) × IsLog S es
   look_log q e =

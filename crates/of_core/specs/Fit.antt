@@ -44,9 +44,9 @@ FitsPlace S m (LoadScript j) =
 FitsPlace S m (LoadCell a) = IsScanning S m × (a < S.cells)
 FitsPlace S m RaiseOld = m.seq < S.limit
 FitsPlace S m (StoreLog x) =
-    (x < length (log_words m.log)) × (m.seq < S.limit) × (x < 2 * most_entries S + 1)
+    (x < length (log_words m.log)) × (m.seq < S.limit) × (length m.log ≤ most_entries S)
 FitsPlace S m (RaiseLog x) =
-    (x < length (log_words m.log)) × (m.seq < S.limit) × (x < 2 * most_entries S + 1)
+    (x < length (log_words m.log)) × (m.seq < S.limit) × (length m.log ≤ most_entries S)
 FitsPlace S m StoreRequest = m.seq < S.limit
 FitsPlace S m RaiseRequest = m.seq < S.limit
 FitsPlace S m ExchangeCurrent = m.seq < S.limit

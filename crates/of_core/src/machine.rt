@@ -11,6 +11,7 @@ ghost use Rattle.of_core.specs.Machine.{idle_machine, fresh_call, begin_call, lo
 ghost use Rattle.of_core.specs.Steps.{want, take_word, take_word_at, with_step_counted, IsOnTable};
 ghost use Rattle.of_core.specs.declared.place.Op.{Op};
 ghost use Rattle.of_core.specs.Meets.{MayTake};
+ghost use Rattle.of_core.specs.Lagging.{MayMake};
 
 mod announcing;
 mod answering;
@@ -18,6 +19,7 @@ mod applying;
 mod committing;
 mod helping;
 mod inspect;
+mod lagging;
 mod lists;
 mod logs;
 mod owing;
@@ -313,11 +315,27 @@ impl<W: Work> Machine<W> {
 
     /// Performs the machine's next atomic step by the performer `by`, with `hand`. `place` is the
     /// place of the machine.
-    // in line, and with an arm for each place: it performs its own form of step and goes straight
-    // on from there, with one jump by the place
     #[inline(always)]
     pub fn perform<P: Performer>(&self, place: Place, by: &P, hand: &mut P::Hand) -> P::Given
         requires here { place ≡ self.now.call.place }
+        requires takes { (op : Op) → op ≡ op_at W.meaning place self.now
+            → IsOnTable (machine_setup W.meaning self.now) op → P.takes by.now hand.old op }
+        ensures made { P.made by.now hand.old (op_at W.meaning place self.now) result hand.new }
+        ensures range { IsOnTable (machine_setup W.meaning self.now)
+            (op_at W.meaning place self.now) }
+    {
+        self.may_step();
+        self.perform_at(place, by, hand)
+    }
+
+    /// Performs the atomic step that `place` names, as `perform` does. A machine that lags has
+    /// another place.
+    // in line, and with an arm for each place: it performs its own form of step and goes straight
+    // on from there, with one jump by the place
+    #[inline(always)]
+    #[tactic(auto, using(crate::proofs::LogWords::word_laws))]
+    pub fn perform_at<P: Performer>(&self, place: Place, by: &P, hand: &mut P::Hand) -> P::Given
+        requires may { MayMake W.meaning self.now place }
         requires takes { (op : Op) → op ≡ op_at W.meaning place self.now
             → IsOnTable (machine_setup W.meaning self.now) op → P.takes by.now hand.old op }
         ensures made { P.made by.now hand.old (op_at W.meaning place self.now) result hand.new }

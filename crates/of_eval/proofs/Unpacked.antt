@@ -1,5 +1,6 @@
 -- The parts of a shape, and the only reply that cells may hold.
 use Rattle.std.proofs.Common.{◌≡◌, ℕ, zero, suc, ◌+◌, ◌*◌, ◌<◌, ◌≤◌, ◌/◌, ◌%◌, ◌^◌, List, [], ◌∷◌, length, get_or, replicate, inl, inr, Option, Some, None, refl, sym, ◌∙◌, ap, subst, arith}
+use Rattle.std.specs.Prelude.{MatchOption, ◌≢◌}
 use Rattle.std.specs.List.{All}
 use Rattle.std.proofs.lemmas.Bool.{cases_lt}
 use Rattle.std.proofs.lemmas.List.{get_or_past, get_or_default}
@@ -119,13 +120,20 @@ module _ (raw : RawReply) (r : Reply) (h : IsHeldBy raw r) where
       zeros zero = refl
       zeros (suc n) = let e : mask_of (replicate n None) ≡ 0 = zeros n in omega (arith, e)
 
-  -- the only reply with this abort
-  pub aborted_is : 2 ^ 21 ≤ raw.shape → (l p : ℕ) (c : Cause) → l ≡ raw.shape / 2 ^ 16 % 32 → p ≡ raw.shape / 2 ^ 21 % 32 → code_of c ≡ raw.shape / 2 ^ 26 → ◌≡◌ {A = Option Reply} (Some (record { len = l; values = replicate MOST_INSTRS None; abort = Some (record { place = p; cause = c }) })) (Some r)
-  aborted_is large l p c e f g =
+  -- what the shape tells of an abort is the reply's
+  pub told_is : 2 ^ 21 ≤ raw.shape → (o : Option Abort) → MatchOption o ((c : Cause) → code_of c ≢ raw.shape / 2 ^ 26) (λ b. (b.place ≡ raw.shape / 2 ^ 21 % 32) × (code_of b.cause ≡ raw.shape / 2 ^ 26)) → o ≡ r.abort
+  told_is large None none = let a = abort_of large in absurd (none a.0.cause (sym a.2.code))
+  told_is large (Some b) told =
       let a = abort_of large in
-      let place : p ≡ a.0.place = f ∙ a.2.place in
-      let cause : c ≡ a.0.cause = code_injective c a.0.cause (g ∙ a.2.code) in
-      ap Some (reply_is l (replicate MOST_INSTRS None) (Some (record { place = p; cause = c })) r (e ∙ len_is) (ap (λ (n : ℕ). replicate n None) (sym h.0.width) ∙ sym (nones r.values a.4)) ((λ i. Some (record { place = place i; cause = cause i })) ∙ sym a.1))
+      let place : b.place ≡ a.0.place = told.0 ∙ a.2.place in
+      let cause : b.cause ≡ a.0.cause = code_injective b.cause a.0.cause (told.1 ∙ a.2.code) in
+      (λ i. Some (record { place = place i; cause = cause i })) ∙ sym a.1
+
+  -- the only reply with this abort
+  pub aborted_is : 2 ^ 21 ≤ raw.shape → (l : ℕ) (b : Abort) → l ≡ raw.shape / 2 ^ 16 % 32 → (b.place ≡ raw.shape / 2 ^ 21 % 32) × (code_of b.cause ≡ raw.shape / 2 ^ 26) → ◌≡◌ {A = Option Reply} (Some (record { len = l; values = replicate MOST_INSTRS None; abort = Some b })) (Some r)
+  aborted_is large l b e told =
+      let a = abort_of large in
+      ap Some (reply_is l (replicate MOST_INSTRS None) (Some b) r (e ∙ len_is) (ap (λ (n : ℕ). replicate n None) (sym h.0.width) ∙ sym (nones r.values a.4)) (told_is large (Some b) told))
 
 -- what the marks say is a reply with no abort
 pub answered_holds : (raw : RawReply) (l : ℕ) (vs : List (Option ℕ)) → length raw.values ≡ MOST_INSTRS → 1 ≤ l → l ≤ MOST_INSTRS → l ≡ raw.shape / 2 ^ 16 % 32 → raw.shape < 2 ^ 21 → vs ≡ marked_in (raw.shape % 2 ^ 16) raw.values

@@ -12,6 +12,6 @@ mod table;
 mod walk;
 
 pub use lawful_cells::{LawErr, lawful};
-pub use reply::{reply_cells, reply_of};
+pub use reply::{reply_abort, reply_cells, reply_len, reply_marks, reply_of};
 pub use scripts::Scripts;
 pub use table::shape_of;

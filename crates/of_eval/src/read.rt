@@ -28,21 +28,28 @@ pub(crate) fn read_words<C: Cells>(
         (in_cells out.new result) }
     ensures out { OnErr result (out.new ≡ out.old) }
 {
-    let mut shape = op.len() as u32 * (1 << 16);
-    let mut values = [0; MOST_INSTRS];
+    // the reply is written where it stays: a copy of what was just written would have to wait
+    let before = *out;
+    *out = RawReply {
+        shape: op.len() as u32 * (1 << 16),
+        values: [0; MOST_INSTRS],
+    };
     for i in 0..op.len() {
-        let answer = match read_word(plot, cells, op[i])? {
-            Ok(answer) => answer,
-            Err(cause) => {
+        let answer = match read_word(plot, cells, op[i]) {
+            Ok(Ok(answer)) => answer,
+            Ok(Err(cause)) => {
                 abort_in_cells(op.len(), i, cause, out);
                 return Ok(());
             }
+            Err(need) => {
+                *out = before;
+                return Err(need);
+            }
         };
         if let Some(value) = answer {
-            shape += 1 << i;
-            values[i] = value;
+            out.shape += 1 << i;
+            out.values[i] = value;
         }
     }
-    *out = RawReply { shape, values };
     Ok(())
 }

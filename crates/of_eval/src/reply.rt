@@ -125,6 +125,53 @@ pub(crate) fn abort_in_cells(len: usize, place: usize, cause: Cause, out: &mut R
     });
 }
 
+/// How many instructions a script has, as the shape of its reply in cells says.
+#[inline(always)]
+pub fn reply_len(raw: &RawReply) -> u32
+    ensures value { result ≡ raw.now.shape / 2 ^ 16 % 32 }
+    ensures held { (r : TheReply) → IsHeldBy raw.now r → result ≡ r.len }
+{
+    raw.shape / (1 << 16) % 32
+}
+
+/// Which answers are numbers, as the shape of a reply in cells says: bit j is the mark of answer j.
+#[inline(always)]
+pub fn reply_marks(raw: &RawReply) -> u32
+    ensures value { result ≡ raw.now.shape % 2 ^ 16 }
+    ensures held { (r : TheReply) → IsHeldBy raw.now r
+        → marked_in result raw.now.values ≡ r.values }
+{
+    raw.shape % (1 << 16)
+}
+
+/// The abort that the shape of a reply in cells tells of, if it tells of one.
+#[inline(always)]
+pub fn reply_abort(raw: &RawReply) -> Option<Abort>
+    ensures { (r : TheReply) → IsHeldBy raw.now r → result ≡ r.abort }
+{
+    if raw.shape < 1 << 21 {
+        return None;
+    }
+    told_abort(raw)
+}
+
+// The place and the cause that a shape tells; None if no cause has its code.
+// out of line, so that what is called often is small
+#[cold]
+#[inline(never)]
+fn told_abort(raw: &RawReply) -> Option<Abort>
+    ensures { MatchOption result ((c : TheCause) → code_of c ≢ raw.now.shape / 2 ^ 26)
+        (λ a. (a.place ≡ raw.now.shape / 2 ^ 21 % 32)
+        × (code_of a.cause ≡ raw.now.shape / 2 ^ 26)) }
+{
+    let place = raw.shape / (1 << 21) % 32;
+    let cause = cause(raw.shape / (1 << 26))?;
+    Some(Abort {
+        place: place as u8,
+        cause,
+    })
+}
+
 /// The reply that these cells hold. None exactly if they hold no reply: the shape is not the shape
 /// of any reply, or a number that it marks is above `GREATEST`.
 #[inline(always)]
@@ -132,7 +179,7 @@ pub fn reply_of(raw: &RawReply) -> Option<Reply>
     ensures some { IfSome result (IsHeldBy raw.now) }
     ensures only { (r : TheReply) → IsHeldBy raw.now r → result ≡ Some r }
 {
-    let len = raw.shape / (1 << 16) % 32;
+    let len = reply_len(raw);
     if len == 0 {
         return None;
     }
@@ -181,7 +228,7 @@ fn answered_reply(raw: &RawReply, len: u32) -> Option<Reply>
     ensures some { IfSome result (IsHeldBy raw.now) }
     ensures only { (r : TheReply) → IsHeldBy raw.now r → result ≡ Some r }
 {
-    let marks = raw.shape % (1 << 16);
+    let marks = reply_marks(raw);
     if marks >= 1 << len {
         return None;
     }
@@ -205,20 +252,17 @@ fn aborted_reply(raw: &RawReply, len: u32) -> Option<Reply>
     ensures some { IfSome result (IsHeldBy raw.now) }
     ensures only { (r : TheReply) → IsHeldBy raw.now r → result ≡ Some r }
 {
-    let place = raw.shape / (1 << 21) % 32;
-    let cause = cause(raw.shape / (1 << 26))?;
-    if raw.shape % (1 << 16) != 0 {
+    let abort = told_abort(raw)?;
+    if reply_marks(raw) != 0 {
         return None;
     }
+    let place = u32::from(abort.place);
     if place >= len {
         return None;
     }
     Some(Reply {
         len: len as u8,
         values: [None; MOST_INSTRS],
-        abort: Some(Abort {
-            place: place as u8,
-            cause,
-        }),
+        abort: Some(abort),
     })
 }

@@ -193,7 +193,29 @@ impl Handle {
         ensures alone { MakesStepsAlone self.old self.new }
         ensures seq { KnowsSeqOf result self.old self.new }
     {
-        typed(self.cells.go_on())
+        typed(self.go_on_words())
+    }
+
+    /// Goes on with the open call, as `go_on` does. The answer's reply is as cells hold it.
+    pub fn go_on_words(&mut self) -> Result<RawAnswer, RunError>
+        requires { IsHandle self.old }
+        ensures handle { IsHandle self.new }
+        ensures same { IsSame self.old self.new }
+        ensures some { HasTyped result }
+        ensures made { HoldsOfTyped result (λ a. ResumesCall a self.old self.new) }
+        ensures open_call { HoldsOfTyped result (λ a. OpenCallStays a self.old self.new) }
+        ensures cause { HoldsOfTyped result (RefusesToGoOn self.old) }
+        ensures unmade { HoldsOfTyped result (λ a. LeavesAsItWas a self.old self.new) }
+        ensures bound { HoldsOfTyped result (EndsWithin (step_bound_of self.old)) }
+        ensures rise { GoesOnWithin (step_bound_of self.old) self.old self.new }
+        ensures stopped { HoldsOfTyped result IsNeverStopped }
+        ensures only { OpensNone self.old self.new }
+        ensures behind { HoldsOfTyped result (λ a. ResumesAfterHeard a self.old self.new) }
+        ensures knows { KeepsKnown self.old self.new }
+        ensures alone { MakesStepsAlone self.old self.new }
+        ensures seq { HoldsOfTyped result (λ a. KnowsSeqOf a self.old self.new) }
+    {
+        self.cells.go_on()
     }
 
     /// Goes on with the open call for at most this many steps. If they are too few, it stays open.
@@ -216,7 +238,31 @@ impl Handle {
         ensures alone { MakesStepsAlone self.old self.new }
         ensures seq { KnowsSeqOf result self.old self.new }
     {
-        typed(self.cells.go_on_within(steps))
+        typed(self.go_on_words_within(steps))
+    }
+
+    /// Goes on with the open call, as `go_on_within` does. The answer's reply is as cells hold it.
+    pub fn go_on_words_within(&mut self, steps: u64) -> Result<RawAnswer, RunError>
+        requires { IsHandle self.old }
+        ensures handle { IsHandle self.new }
+        ensures same { IsSame self.old self.new }
+        ensures some { HasTyped result }
+        ensures made { HoldsOfTyped result (λ a. ResumesCall a self.old self.new) }
+        ensures open_call { HoldsOfTyped result (λ a. OpenCallStays a self.old self.new) }
+        ensures cause { HoldsOfTyped result (RefusesToGoOn self.old) }
+        ensures unmade { HoldsOfTyped result (λ a. LeavesAsItWas a self.old self.new) }
+        ensures bound { HoldsOfTyped result (EndsWithin (step_bound_of self.old)) }
+        ensures rise { GoesOnWithin (step_bound_of self.old) self.old self.new }
+        ensures within { HoldsOfTyped result
+            (KeepsWithin (steps_so_far self.old) steps (steps_so_far self.new)) }
+        ensures given { MakesAtMost steps self.old self.new }
+        ensures only { OpensNone self.old self.new }
+        ensures behind { HoldsOfTyped result (λ a. ResumesAfterHeard a self.old self.new) }
+        ensures knows { KeepsKnown self.old self.new }
+        ensures alone { MakesStepsAlone self.old self.new }
+        ensures seq { HoldsOfTyped result (λ a. KnowsSeqOf a self.old self.new) }
+    {
+        self.cells.go_on_within(steps)
     }
 
     /// What the handle knows, for another handle of its memory to hear: which of its own calls have

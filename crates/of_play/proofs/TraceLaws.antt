@@ -1,5 +1,5 @@
 -- Which events a trace has lines of, and in which worlds; and the replies that it prints.
-use Rattle.std.proofs.Common.{◌≡◌, ℕ, zero, suc, ◌+◌, ◌<◌, ◌≤◌, ◌^◌, ◌/◌, Bool, true, false, nat_lt, List, [], ◌∷◌, length, take, get_or, replicate, Option, Some, None, refl, sym, ◌∙◌, ap, arith}
+use Rattle.std.proofs.Common.{◌≡◌, ℕ, zero, suc, ◌+◌, ◌<◌, ◌≤◌, ◌^◌, ◌/◌, ◌%◌, Bool, true, false, nat_lt, List, [], ◌∷◌, length, take, get_or, replicate, Option, Some, None, refl, sym, ◌∙◌, ap, arith}
 use Rattle.std.specs.List.{AllByRecursion as Each, flat_map}
 use Rattle.std.proofs.lemmas.Bool.Decides.{nat_tests}
 use Rattle.of_script.specs.declared.instr.Reply.{Reply as RustReply}
@@ -92,4 +92,4 @@ reply_read raw r wide h = go (nat_lt raw.shape (2 ^ 21)) refl
         let large : 2 ^ 21 ≤ raw.shape = grind (arith, nat_tests) in
         let a = abort_of raw r h large in
         let cause : cause_at (raw.shape / 2 ^ 26) ≡ a.0.cause = ap cause_at a.2.code ∙ cause_again a.0.cause in
-        rw e (ap responded (aborted_is raw r h large _ _ (cause_at (raw.shape / 2 ^ 26)) refl refl (ap code_of cause ∙ sym a.2.code)))
+        rw e (ap responded (aborted_is raw r h large _ (record { place = raw.shape / 2 ^ 21 % 32; cause = cause_at (raw.shape / 2 ^ 26) }) refl (refl, ap code_of cause ∙ sym a.2.code)))

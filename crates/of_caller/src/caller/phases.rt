@@ -1,10 +1,11 @@
 //! The steps of a call, phase by phase. Each phase expects the places in their usual order, so that
-//! the compiler knows the place of most steps, and their code has no jump by the place. At any other
-//! place the phase ends.
+//! the compiler knows the place of most steps, and their code has no jump by the place. At any
+//! other place the phase ends.
 
-ghost use Rattle.std.specs.Prelude.{◌≡◌, ◌<◌, ◌≤◌, ℕ, OnOk, OnErr, Ok, Some, None, IsTrue};
+ghost use Rattle.std.specs.Prelude.{◌≡◌, ◌<◌, ◌≤◌, ℕ, OnOk, OnErr, Ok, Some, None, IsTrue, length};
+ghost use Rattle.of_mem.specs.declared.work.TheConstants.{MOST_INSTRS};
 ghost use Rattle.of_core.specs.Machine.{IsOpen};
-ghost use Rattle.of_core.specs.declared.place.Place.TheVariants.{CopyLog, LoadTarget, TryCell};
+ghost use Rattle.of_core.specs.declared.place.Place.TheVariants.{CopyLog, TryCell};
 ghost use Rattle.of_core.specs.OwedRun.{OwesRun, with_cell_loaded};
 
 use super::Caller;
@@ -79,16 +80,20 @@ impl<W: Work> Caller<W> {
         Ok(owed)
     }
 
-    /// Makes a step of the open call, and then those after it, as far as the phases go.
+    /// Makes a step of the open call, and then those after it, as far as the phases go. `op` is the
+    /// call's operation, as it was given.
     #[inline(always)]
     pub(super) fn go_far<L: Ledger, B: Brake>(
         &mut self,
+        op: &[u64],
         row: &Row<W>,
         brake: &mut B,
         steps: &mut Steps<L>,
     ) -> Result<(), Stopped>
         requires caller { IsCaller W.meaning row.now self.old }
         requires open { IsOpen (caller_call self.old).place }
+        requires op { op.now ≡ (caller_call self.old).op }
+        requires few { length op.now ≤ MOST_INSTRS }
         ensures caller { IsCaller W.meaning row.now self.new }
         ensures goes { OnOk result (LeadsOn W.meaning W.lawful B.denials B.left B.answers B.asks
             row.now self.old brake.old steps.old self.new brake.new steps.new) }
@@ -98,10 +103,10 @@ impl<W: Work> Caller<W> {
             (steps_left W.meaning self.new < steps_left W.meaning self.old) }
     {
         if let Place::TryCurrent = self.machine.place() {
-            return self.read(row, brake, steps);
+            return self.read(op, row, brake, steps);
         }
         if let Place::TryCell(addr) = self.machine.place() {
-            return self.read_on(Place::TryCell(addr), row, brake, steps);
+            return self.read_on(Place::TryCell(addr), op, row, brake, steps);
         }
         if let Place::CopyLog(at) = self.machine.place() {
             return self.copy(at, row, brake, steps);
@@ -307,13 +312,7 @@ impl<W: Work> Caller<W> {
             return Ok(());
         };
         self.turn(Place::RaiseOld, row, brake, steps)?;
-        while let Place::StoreLog(at) = self.machine.place() {
-            self.turn(Place::StoreLog(at), row, brake, steps)?;
-            let Place::RaiseLog(at) = self.machine.place() else {
-                return Ok(());
-            };
-            self.turn(Place::RaiseLog(at), row, brake, steps)?;
-        }
+        self.store_log(row, brake, steps)?;
         let Place::StoreRequest = self.machine.place() else {
             return Ok(());
         };
@@ -349,9 +348,7 @@ impl<W: Work> Caller<W> {
         ensures falls { OnOk result
             (steps_left W.meaning self.new ≤ steps_left W.meaning self.old) }
     {
-        while let Place::LoadTarget(entry) = self.machine.place() {
-            self.bring(entry, row, brake, steps)?;
-        }
+        self.apply_log(row, brake, steps)?;
         let Place::CloseRequest = self.machine.place() else {
             return Ok(());
         };
@@ -362,53 +359,19 @@ impl<W: Work> Caller<W> {
         self.turn(Place::RaiseClosed, row, brake, steps)
     }
 
-    /// Applies an entry of the log.
-    #[inline(always)]
-    fn bring<L: Ledger, B: Brake>(
-        &mut self,
-        entry: u32,
-        row: &Row<W>,
-        brake: &mut B,
-        steps: &mut Steps<L>,
-    ) -> Result<(), Stopped>
-        requires caller { IsCaller W.meaning row.now self.old }
-        requires here { LoadTarget entry ≡ (caller_call self.old).place }
-        ensures caller { IsCaller W.meaning row.now self.new }
-        ensures goes { OnOk result (LeadsOn W.meaning W.lawful B.denials B.left B.answers B.asks
-            row.now self.old brake.old steps.old self.new brake.new steps.new) }
-        ensures denied { OnErr result (LeadsToDenial W.meaning W.lawful B.denials B.left B.answers
-            B.asks row.now self.old brake.old steps.old self.new brake.new steps.new) }
-        ensures falls { OnOk result
-            (steps_left W.meaning self.new < steps_left W.meaning self.old) }
-    {
-        self.turn(Place::LoadTarget(entry), row, brake, steps)?;
-        if let Place::RaiseTarget(entry, found) = self.machine.place() {
-            return self.turn(Place::RaiseTarget(entry, found), row, brake, steps);
-        }
-        let Place::ExchangeTarget(entry, found) = self.machine.place() else {
-            return Ok(());
-        };
-        self.turn(Place::ExchangeTarget(entry, found), row, brake, steps)?;
-        let Place::ReloadTarget(entry) = self.machine.place() else {
-            return Ok(());
-        };
-        self.turn(Place::ReloadTarget(entry), row, brake, steps)?;
-        let Place::RaiseTarget(entry, found) = self.machine.place() else {
-            return Ok(());
-        };
-        self.turn(Place::RaiseTarget(entry, found), row, brake, steps)
-    }
-
     /// Tries a read.
     #[inline(always)]
     fn read<L: Ledger, B: Brake>(
         &mut self,
+        op: &[u64],
         row: &Row<W>,
         brake: &mut B,
         steps: &mut Steps<L>,
     ) -> Result<(), Stopped>
         requires caller { IsCaller W.meaning row.now self.old }
         requires here { Place.TryCurrent ≡ (caller_call self.old).place }
+        requires op { op.now ≡ (caller_call self.old).op }
+        requires few { length op.now ≤ MOST_INSTRS }
         ensures caller { IsCaller W.meaning row.now self.new }
         ensures goes { OnOk result (LeadsOn W.meaning W.lawful B.denials B.left B.answers B.asks
             row.now self.old brake.old steps.old self.new brake.new steps.new) }
@@ -421,7 +384,7 @@ impl<W: Work> Caller<W> {
         let Place::TryRequest = self.machine.place() else {
             return Ok(());
         };
-        self.read_on(Place::TryRequest, row, brake, steps)
+        self.read_on(Place::TryRequest, op, row, brake, steps)
     }
 
     /// Makes a step of a try, and the run to which it leads.
@@ -429,6 +392,7 @@ impl<W: Work> Caller<W> {
     fn read_on<L: Ledger, B: Brake>(
         &mut self,
         place: Place,
+        op: &[u64],
         row: &Row<W>,
         brake: &mut B,
         steps: &mut Steps<L>,
@@ -436,6 +400,8 @@ impl<W: Work> Caller<W> {
         requires caller { IsCaller W.meaning row.now self.old }
         requires here { place ≡ (caller_call self.old).place }
         requires open { IsOpen place }
+        requires op { op.now ≡ (caller_call self.old).op }
+        requires few { length op.now ≤ MOST_INSTRS }
         ensures caller { IsCaller W.meaning row.now self.new }
         ensures goes { OnOk result (LeadsOn W.meaning W.lawful B.denials B.left B.answers B.asks
             row.now self.old brake.old steps.old self.new brake.new steps.new) }
@@ -445,7 +411,7 @@ impl<W: Work> Caller<W> {
             (steps_left W.meaning self.new < steps_left W.meaning self.old) }
     {
         match self.turn_owing(place, row, brake, steps)? {
-            Some(_) => self.run_read(row, brake, steps),
+            Some(_) => self.run_read(op, row, brake, steps),
             None => Ok(()),
         }
     }

@@ -99,16 +99,20 @@ impl<W: Work> Caller<W> {
     ghost use Rattle.of_caller.specs.Loading.{Stands};
     ghost use Rattle.of_caller.specs.declared.caller.reading.Course.TheVariants.{GoesOn};
 
-    /// Runs the operation of a call whose machine owes this run.
+    /// Runs the operation of a call whose machine owes this run. The run reads `op`, the words as
+    /// they were given: the machine's own are out of reach while the cells hold the caller.
     #[inline(always)]
     pub(super) fn run_read<L: Ledger, B: Brake>(
         &mut self,
+        op: &[u64],
         row: &Row<W>,
         brake: &mut B,
         steps: &mut Steps<L>,
     ) -> Result<(), Stopped>
         requires caller { IsCaller W.meaning row.now (true_caller W.meaning true self.old) }
         requires owes { OwesRun W.meaning W.lawful self.old.machine }
+        requires op { op.now ≡ (caller_call self.old).op }
+        requires few { length op.now ≤ MOST_INSTRS }
         ensures caller { IsCaller W.meaning row.now self.new }
         ensures goes { OnOk result (LeadsOn W.meaning W.lawful B.denials B.left B.answers B.asks
             row.now (true_caller W.meaning true self.old) brake.old steps.old self.new brake.new
@@ -119,8 +123,6 @@ impl<W: Work> Caller<W> {
         ensures falls { OnOk result (steps_left W.meaning self.new
             ≤ steps_left W.meaning (true_caller W.meaning true self.old)) }
     {
-        let (words, count) = self.machine.operation();
-        let op = &words[..count];
         let mut reply = RawReply {
             shape: 0,
             values: [0; MOST_INSTRS],

@@ -16,6 +16,7 @@ impl<W: Work> Machine<W> {
     /// it.
     pub(super) fn after_raise_old(&mut self)
         requires at { self.old.call.place ≡ Place.RaiseOld }
+        requires few { length self.old.call.log ≤ log_room self.old.callers self.old.cells }
         ensures { self.new ≡ step_from W.meaning Place.RaiseOld 0 self.old }
     {
         self.place = Place::StoreLog(0);
@@ -33,7 +34,6 @@ impl<W: Work> Machine<W> {
     /// Goes on after the raise of the durable word of a log word.
     pub(super) fn after_raise_log(&mut self, at: u32)
         requires at { self.old.call.place ≡ RaiseLog at }
-        requires few { length self.old.call.log ≤ log_room self.old.callers self.old.cells }
         ensures { self.new ≡ step_from W.meaning (RaiseLog at) 0 self.old }
     {
         let words = 2 * self.log.len() + 1;

@@ -1,5 +1,4 @@
 use Rattle.std.proofs.Common.{ℕ, ◌^◌, ◌<◌, refl, subst, arith, get_or, Ok}
-use Rattle.std.proofs.lemmas.Result.{err_from_is_err_and}
 use Rattle.of_mem.specs.OnDemand.{RunsOn}
 use Rattle.of_mem.proofs.OnDemand.{goes_nowhere, goes_further, only_read_on}
 use Rattle.of_script.specs.declared.instr.TheConstants.{MOST_INSTRS}
@@ -16,7 +15,6 @@ loop-i-init g c = record {
   part = refl;
   goes = goes_nowhere _ c.requires.may.knows;
   answered = none_answered c.args.plot.now c.args.op.now (g.C.Cells.run c.args.cells.now).part (g.C.Cells.run c.args.cells.now).part.known c.requires.words.few;
-  out = refl;
 }
 
 pub read_word-requires-clause-may : goal.read_word-requires-clause-may
@@ -27,21 +25,20 @@ read_word-requires-clause-may g c =
 pub read_word-requires-clause-reads : goal.read_word-requires-clause-reads
 read_word-requires-clause-reads g c = word_reads_at c.args.op.now c.loop-i.i c.requires.reads c.loop-i-test.true
 
-pub returns-in_err-answer-clause-runs : goal.returns-in_err-answer-clause-runs
-returns-in_err-answer-clause-runs g c =
-    let h = c.loop-i.invariant in
-    let p = err_from_is_err_and c.from_residual.result c.from_residual.ensures.1 in
-    rw (p.1, p.2) (word_lacked c.args.plot.now c.args.op.now c.requires.words.few (g.C.Cells.run c.args.cells.now) (g.C.Cells.run c.loop-i.cells) h.part h.goes c.loop-i.i _ _ c.loop-i-test.true h.answered
-    (g.C.Cells.run c.read_word.new.cells) c.in_err-answer.ensures.part c.in_err-answer.field-0.0 c.in_err-answer.ensures.runs)
-
 pub returns-in-Err-clause-runs : goal.returns-in-Err-clause-runs
 returns-in-Err-clause-runs g c =
     let h = c.loop-i.invariant in
-    rw c.abort_in_cells.ensures (word_aborted c.args.plot.now c.args.op.now c.requires.words.few (g.C.Cells.run c.args.cells.now) (g.C.Cells.run c.loop-i.cells) h.part h.goes c.loop-i.i _ _ c.loop-i-test.true h.answered
-    (g.C.Cells.run c.read_word.new.cells) c.in_ok-answer.ensures.part c.in-Err.cause (rw c.in-Err.is at c.in_ok-answer.ensures.runs))
+    word_lacked c.args.plot.now c.args.op.now c.requires.words.few (g.C.Cells.run c.args.cells.now) (g.C.Cells.run c.loop-i.cells) h.part h.goes c.loop-i.i _ _ c.loop-i-test.true h.answered
+    (g.C.Cells.run c.read_word.new.cells) c.in-Err.ensures.part c.in-Err.need c.in-Err.ensures.runs
 
-pub overflow_add-shape : goal.overflow_add-shape
-overflow_add-shape g c =
+pub returns-in-Ok-Err-clause-runs : goal.returns-in-Ok-Err-clause-runs
+returns-in-Ok-Err-clause-runs g c =
+    let h = c.loop-i.invariant in
+    rw c.abort_in_cells.ensures (word_aborted c.args.plot.now c.args.op.now c.requires.words.few (g.C.Cells.run c.args.cells.now) (g.C.Cells.run c.loop-i.cells) h.part h.goes c.loop-i.i _ _ c.loop-i-test.true h.answered
+    (g.C.Cells.run c.read_word.new.cells) c.in-Ok-Err.ensures.part c.in-Ok-Err.cause (rw c.in-Ok-Err.field-0-is at c.in-Ok-Err.ensures.runs))
+
+pub overflow_add-out : goal.overflow_add-out
+overflow_add-out g c =
     let a = c.loop-i.invariant.answered in
     let below : c.loop-i.i < MOST_INSTRS = omega (arith, c.loop-i-test.true, c.requires.words.few) in
     let marks : mask_of a.answers < 2 ^ MOST_INSTRS = subst (λ (n : ℕ). mask_of a.answers < 2 ^ n) a.width (mask_width a.answers) in
@@ -50,17 +47,16 @@ overflow_add-shape g c =
 pub loop-i-preserved : goal.loop-i-preserved
 loop-i-preserved g c =
     let h = c.loop-i.invariant in
-    let r : RunsOn (run_word c.args.plot.now (get_or c.args.op.now c.loop-i.i 0)) (g.C.Cells.run c.loop-i.cells) (g.C.Cells.run c.read_word.new.cells) (Ok (Ok c.in-Ok.answer)) = rw (← c.in-Ok.is) c.in_ok-answer.ensures.runs in
+    let r : RunsOn (run_word c.args.plot.now (get_or c.args.op.now c.loop-i.i 0)) (g.C.Cells.run c.loop-i.cells) (g.C.Cells.run c.read_word.new.cells) (Ok (Ok c.in-Ok-Ok.answer)) = rw (← c.in-Ok-Ok.field-0-is) c.in-Ok-Ok.ensures.runs in
     record {
-      part = only_read_on (g.C.Cells.run c.args.cells.now).part (g.C.Cells.run c.loop-i.cells).part (g.C.Cells.run c.read_word.new.cells).part h.part c.in_ok-answer.ensures.part;
+      part = only_read_on (g.C.Cells.run c.args.cells.now).part (g.C.Cells.run c.loop-i.cells).part (g.C.Cells.run c.read_word.new.cells).part h.part c.in-Ok-Ok.ensures.part;
       goes = goes_further (g.C.Cells.run c.args.cells.now) (g.C.Cells.run c.loop-i.cells) (g.C.Cells.run c.read_word.new.cells) h.goes r.goes;
       answered = elim c.match-answer.branch [
-        | in-Some w ↦ rw (w.shape-is, w.values-is) (number_answered c.args.plot.now c.args.op.now c.requires.words.few (g.C.Cells.run c.args.cells.now) (g.C.Cells.run c.loop-i.cells) h.part h.goes c.loop-i.i _ _ c.loop-i-test.true h.answered
-            (g.C.Cells.run c.read_word.new.cells) c.in_ok-answer.ensures.part w.in-Some.value _ (bit_is c.loop-i.i (omega (arith, c.loop-i-test.true, c.requires.words.few))) (rw w.in-Some.is at r))
-        | in_default w ↦ rw (w.shape-is, w.values-is) (none_answered_at c.args.plot.now c.args.op.now c.requires.words.few (g.C.Cells.run c.args.cells.now) (g.C.Cells.run c.loop-i.cells) h.part h.goes c.loop-i.i _ _ c.loop-i-test.true h.answered
-            (g.C.Cells.run c.read_word.new.cells) c.in_ok-answer.ensures.part (rw w.in_default.is at r))
+        | in-Some w ↦ rw w.out-is (number_answered c.args.plot.now c.args.op.now c.requires.words.few (g.C.Cells.run c.args.cells.now) (g.C.Cells.run c.loop-i.cells) h.part h.goes c.loop-i.i _ _ c.loop-i-test.true h.answered
+            (g.C.Cells.run c.read_word.new.cells) c.in-Ok-Ok.ensures.part w.in-Some.value _ (bit_is c.loop-i.i (omega (arith, c.loop-i-test.true, c.requires.words.few))) (rw w.in-Some.is at r))
+        | in_default w ↦ rw w.out-is (none_answered_at c.args.plot.now c.args.op.now c.requires.words.few (g.C.Cells.run c.args.cells.now) (g.C.Cells.run c.loop-i.cells) h.part h.goes c.loop-i.i _ _ c.loop-i-test.true h.answered
+            (g.C.Cells.run c.read_word.new.cells) c.in-Ok-Ok.ensures.part (rw w.in_default.is at r))
       ];
-      out = h.out;
     }
 
 pub returns-clause-runs : goal.returns-clause-runs

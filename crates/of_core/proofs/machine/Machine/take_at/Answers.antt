@@ -1,6 +1,6 @@
 use Rattle.std.proofs.Common.{◌≡◌, ◌+◌, ◌<◌, refl, sym, ◌∙◌, arith}
 use Rattle.of_mem.specs.Meaning.{IsSoundMeaning}
-use Rattle.of_core.specs.declared.place.Place.TheVariants.{RaiseLog, TryCurrent, TryRequest, TryCell, LoadCurrent, CopyLog, LookAgain, LoadAnnouncement, LoadTicket, LoadScript, LoadCell, RaiseClosed}
+use Rattle.of_core.specs.declared.place.Place.TheVariants.{RaiseOld, TryCurrent, TryRequest, TryCell, LoadCurrent, CopyLog, LookAgain, LoadAnnouncement, LoadTicket, LoadScript, LoadCell, RaiseClosed}
 use Rattle.of_core.specs.Table.{Setup, setup_of, first_operation_cell}
 use Rattle.of_core.specs.MachineValue.{machine_setup}
 use Rattle.of_core.proofs.Puts.{sound_at}
@@ -37,10 +37,10 @@ after_copy_log-requires-clause-count g c =
     let place : c.args.self.now.call.place ≡ CopyLog c.in-CopyLog.at = sym c.requires.here ∙ c.in-CopyLog.is in
     rw (← c.self.view_is) at (copy_count (machine_setup g.W.Work.meaning c.args.self.now) (g.W.Work.lawful c.args.self.now.work) c.args.self.now.call c.args.found c.requires.good c.in-CopyLog.at place)
 
-pub after_raise_log-requires-clause-few : goal.after_raise_log-requires-clause-few
-after_raise_log-requires-clause-few g c =
-    let place : c.args.self.now.call.place ≡ RaiseLog c.in-RaiseLog.at = sym c.requires.here ∙ c.in-RaiseLog.is in
-    rw (← c.self.view_is) at (store_few (machine_setup g.W.Work.meaning c.args.self.now) (g.W.Work.lawful c.args.self.now.work) c.args.self.now.call c.args.found c.requires.good c.in-RaiseLog.at place)
+pub after_raise_old-requires-clause-few : goal.after_raise_old-requires-clause-few
+after_raise_old-requires-clause-few g c =
+    let place : c.args.self.now.call.place ≡ RaiseOld = sym c.requires.here ∙ c.in-RaiseOld.is in
+    rw (← c.self.view_is) at (store_few (machine_setup g.W.Work.meaning c.args.self.now) (g.W.Work.lawful c.args.self.now.work) c.args.self.now.call c.args.found c.requires.good place)
 
 pub after_look_again-requires-clause-some : goal.after_look_again-requires-clause-some
 after_look_again-requires-clause-some g c =

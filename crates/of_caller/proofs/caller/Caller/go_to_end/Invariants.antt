@@ -1,6 +1,6 @@
 use Rattle.of_caller.specs.Callers.{IsCaller}
 use Rattle.of_caller.specs.Going.{HasGone, steps_left}
-use Rattle.of_caller.proofs.caller.Caller.go_on.Given as goal
+use Rattle.of_caller.proofs.caller.Caller.go_to_end.Given as goal
 
 abbrev pub decreases-loop-self : goal.decreases-loop-self
 decreases-loop-self g l = steps_left g.W.Work.meaning l.self

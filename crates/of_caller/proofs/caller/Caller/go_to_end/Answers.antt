@@ -2,13 +2,16 @@ use Rattle.std.proofs.Common.{◌∙◌, sym, subst, arith, rules, le_trans, ℕ
 use Rattle.of_caller.specs.Brakes.{AskedFor, StopsWhenToldUsedUp}
 use Rattle.of_caller.proofs.Phases.{gone_none, told_stop, asked_is, asked_more_than, asked_fits}
 use Rattle.of_caller.proofs.BrakeCharges.{gave_same, asked_more, stopped_at, denied_same, risen_from}
-use Rattle.of_caller.proofs.caller.Caller.go_on.Goals as goal
+use Rattle.of_caller.proofs.caller.Caller.go_to_end.Goals as goal
 
 pub loop-self-init : goal.loop-self-init
 loop-self-init g c = record {
   caller = c.requires.caller;
   gone = gone_none g.W.Work.meaning g.W.Work.lawful g.B.Brake.denials g.B.Brake.left g.B.Brake.answers g.B.Brake.asks c.args.row.now c.args.self.now c.args.brake.now c.args.steps.now (search rules);
 }
+
+pub go_far-requires-clause-op : goal.go_far-requires-clause-op
+go_far-requires-clause-op g c = c.requires.op ∙ sym c.loop-self.invariant.gone.progress.op
 
 pub overflow_sub-asked : goal.overflow_sub-asked
 overflow_sub-asked g c =
