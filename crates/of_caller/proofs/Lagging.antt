@@ -1,15 +1,16 @@
--- A caller whose machine lags behind: its steps, and where they lead.
-use Rattle.std.proofs.Common.{◌≡◌, ℕ, List, ◌+◌, ◌<◌, ◌≤◌, true, false, Option, refl, ap, sym, ◌∙◌, subst, arith}
+-- A caller whose machine lags: its steps, and where they lead.
+use Rattle.std.proofs.Common.{◌≡◌, ℕ, List, ◌+◌, ◌<◌, ◌≤◌, Bool, true, false, nat_lt, Option, refl, ap, sym, ◌∙◌, subst, arith}
 use Rattle.of_cell.specs.declared.shape.TheConstants.{MOST_CALLERS, MOST_DATA_CELLS}
+use Rattle.of_cell.specs.Words.{seq_of}
 use Rattle.of_mem.specs.Meaning.{Meaning}
 use Rattle.of_core.specs.declared.place.Place.{Place}
-use Rattle.of_core.specs.declared.place.Place.TheVariants.{StoreLog, RaiseLog}
+use Rattle.of_core.specs.declared.place.Place.TheVariants.{StoreLog, RaiseLog, LoadTarget, RaiseTarget}
 use Rattle.of_core.specs.Machine.{IsOpen}
 use Rattle.of_core.specs.MachineValue.{Machine, machine_setup}
 use Rattle.of_core.specs.Bound.{bound}
-use Rattle.of_core.specs.Lagging.{at_place, after_lagging, word_place}
+use Rattle.of_core.specs.Lagging.{at_place, after_lagging, log_word_place, entry_place, target_place_if}
 use Rattle.of_core.proofs.Idle.{idle_or_open}
-use Rattle.of_core.proofs.Lagging.{at_own, word_stored, word_raised}
+use Rattle.of_core.proofs.Lagging.{at_own, word_stored, word_raised, entry_loaded, entry_raised}
 use Rattle.of_brake.specs.Stops.{HasRisen, ChargesAsk, Asked}
 use Rattle.of_row.specs.declared.row.Row.{Row}
 use Rattle.of_row.specs.Rows.{key_of, StepsMember, IsRowMember, IsMemberOf}
@@ -53,27 +54,49 @@ module _ {W B : Type 0} (meaning : W → Meaning) (lawful : W → List ℕ → T
   pub on_to_denial : (c c1 c2 : Caller W) (b b1 b2 : B) (s s1 s2 : ℕ) → GoesTo meaning lawful denials left answers asks r c b s c1 b1 s1 → IsDeniedAt meaning lawful denials left answers asks r c1 b1 s1 c2 b2 s2 → IsDeniedAt meaning lawful denials left answers asks r c b s c2 b2 s2
   on_to_denial c c1 c2 b b1 b2 s s1 s2 g h = record { caller = h.caller; denied = λ c0 b0 s0 t. h.denied c0 b0 s0 (g.goes c0 b0 s0 t) }
 
-  -- where a step that was made has led, as the machine that lags behind says it
+  -- where a step that was made has led, as the machine that lags says it
   pub led_to : (c c1 : Caller W) (p q : Place) (k j n : ℕ) (b b1 : B) (s s1 : ℕ) → c1.machine ≡ c.machine → after_lagging meaning c.machine p k n ≡ at_place c.machine q j
       → GoesTo meaning lawful denials left answers asks r (lagging_caller c p k) b s (with_machine c1 (after_lagging meaning c.machine p k n)) b1 s1
       → GoesTo meaning lawful denials left answers asks r (lagging_caller c p k) b s (lagging_caller c1 q j) b1 s1
   led_to c c1 p q k j n b b1 s s1 same leads g =
       subst (λ (m : Machine W). GoesTo meaning lawful denials left answers asks r (lagging_caller c p k) b s (with_machine c1 m) b1 s1) (leads ∙ ap (λ (m : Machine W). at_place m q j) (sym same)) g
 
+  -- one step more of the true caller
+  pub then_to : (c c1 c2 : Caller W) (o p q : Place) (k j j2 n : ℕ) (b b1 b2 : B) (s s1 s2 : ℕ) → GoesTo meaning lawful denials left answers asks r (lagging_caller c o k) b s (lagging_caller c1 p j) b1 s1 → c2.machine ≡ c1.machine
+      → after_lagging meaning c1.machine p j n ≡ at_place c1.machine q (j + 1) → j + 1 ≡ j2
+      → GoesTo meaning lawful denials left answers asks r (lagging_caller c1 p j) b1 s1 (with_machine c2 (after_lagging meaning c1.machine p j n)) b2 s2
+      → GoesTo meaning lawful denials left answers asks r (lagging_caller c o k) b s (lagging_caller c2 q j2) b2 s2
+  then_to c c1 c2 o p q k j j2 n b b1 b2 s s1 s2 g same leads count h =
+      on_to (lagging_caller c o k) (lagging_caller c1 p j) (lagging_caller c2 q j2) b b1 b2 s s1 s2 g
+      (led_to c1 c2 p q j j2 n b1 b2 s1 s2 same (leads ∙ ap (at_place c1.machine q) count) h)
+
   -- the two steps for a log word
   pub word_stands : (c c1 c2 : Caller W) (at k n1 n2 : ℕ) (b b1 b2 : B) (s s1 s2 : ℕ) → c1.machine ≡ c.machine → c2.machine ≡ c1.machine
       → GoesTo meaning lawful denials left answers asks r (lagging_caller c (StoreLog at) k) b s (with_machine c1 (after_lagging meaning c.machine (StoreLog at) k n1)) b1 s1
       → GoesTo meaning lawful denials left answers asks r (lagging_caller c1 (RaiseLog at) (k + 1)) b1 s1 (with_machine c2 (after_lagging meaning c1.machine (RaiseLog at) (k + 1) n2)) b2 s2
-      → GoesTo meaning lawful denials left answers asks r (lagging_caller c (StoreLog at) k) b s (lagging_caller c2 (word_place (caller_call c) (at + 1)) (k + 2)) b2 s2
+      → GoesTo meaning lawful denials left answers asks r (lagging_caller c (StoreLog at) k) b s (lagging_caller c2 (log_word_place (caller_call c) (at + 1)) (k + 2)) b2 s2
   word_stands c c1 c2 at k n1 n2 b b1 b2 s s1 s2 same1 same2 g h =
-      let two : k + 1 + 1 ≡ k + 2 = omega arith in
-      let leads : after_lagging meaning c1.machine (RaiseLog at) (k + 1) n2 ≡ at_place c1.machine (word_place (caller_call c) (at + 1)) (k + 2) =
-      word_raised meaning c1.machine (k + 1) n2 at ∙ (λ i. at_place c1.machine (word_place (same1 i).call (at + 1)) (two i)) in
-      on_to (lagging_caller c (StoreLog at) k) (lagging_caller c1 (RaiseLog at) (k + 1)) (lagging_caller c2 (word_place (caller_call c) (at + 1)) (k + 2)) b b1 b2 s s1 s2
+      then_to c c1 c2 (StoreLog at) (RaiseLog at) (log_word_place (caller_call c) (at + 1)) k (k + 1) (k + 2) n2 b b1 b2 s s1 s2
       (led_to c c1 (StoreLog at) (RaiseLog at) k (k + 1) n1 b b1 s s1 same1 (word_stored meaning c.machine k n1 at) g)
-      (led_to c1 c2 (RaiseLog at) (word_place (caller_call c) (at + 1)) (k + 1) (k + 2) n2 b1 b2 s1 s2 same2 leads h)
+      same2 (word_raised meaning c1.machine (k + 1) n2 at ∙ ap (λ (m : Machine W). at_place c1.machine (log_word_place m.call (at + 1)) (k + 1 + 1)) same1) (omega arith) h
 
-  -- ---- a loop in which the machine lags behind
+  -- the first step for an entry
+  pub entry_found : (c c1 : Caller W) (e k n : ℕ) (older : Bool) (b b1 : B) (s s1 : ℕ) → c1.machine ≡ c.machine → older ≡ nat_lt (seq_of n) (caller_call c1).seq
+      → GoesTo meaning lawful denials left answers asks r (lagging_caller c (LoadTarget e) k) b s (with_machine c1 (after_lagging meaning c.machine (LoadTarget e) k n)) b1 s1
+      → GoesTo meaning lawful denials left answers asks r (lagging_caller c (LoadTarget e) k) b s (lagging_caller c1 (target_place_if older e n) (k + 1)) b1 s1
+  entry_found c c1 e k n older b b1 s s1 same is g =
+      let tests : nat_lt (seq_of n) (caller_call c).seq ≡ older = sym (is ∙ ap (λ (m : Machine W). nat_lt (seq_of n) m.call.seq) same) in
+      led_to c c1 (LoadTarget e) (target_place_if older e n) k (k + 1) n b b1 s s1 same (entry_loaded meaning c.machine k n e ∙ ap (λ (x : Bool). at_place c.machine (target_place_if x e n) (k + 1)) tests) g
+
+  -- and the last one
+  pub entry_stands : (c c1 c2 : Caller W) (o : Place) (e f k j j2 n : ℕ) (b b1 b2 : B) (s s1 s2 : ℕ) → GoesTo meaning lawful denials left answers asks r (lagging_caller c o k) b s (lagging_caller c1 (RaiseTarget e f) j) b1 s1 → c1.machine ≡ c.machine → c2.machine ≡ c1.machine → j + 1 ≡ j2
+      → GoesTo meaning lawful denials left answers asks r (lagging_caller c1 (RaiseTarget e f) j) b1 s1 (with_machine c2 (after_lagging meaning c1.machine (RaiseTarget e f) j n)) b2 s2
+      → GoesTo meaning lawful denials left answers asks r (lagging_caller c o k) b s (lagging_caller c2 (entry_place (caller_call c) (e + 1)) j2) b2 s2
+  entry_stands c c1 c2 o e f k j j2 n b b1 b2 s s1 s2 g same1 same2 count h =
+      then_to c c1 c2 o (RaiseTarget e f) (entry_place (caller_call c) (e + 1)) k j j2 n b b1 b2 s s1 s2 g same2
+      (entry_raised meaning c1.machine j n e f ∙ ap (λ (m : Machine W). at_place c1.machine (entry_place m.call (e + 1)) (j + 1)) same1) count h
+
+  -- ---- a loop in which the machine lags
   -- it begins where the machine is
   pub starts : (c : Caller W) (p : Place) (b : B) (s : ℕ) → IsCaller meaning r c → p ≡ (caller_call c).place → LagsTo meaning lawful denials left answers asks r c b s c p 0 b s
   starts c p b s q here =

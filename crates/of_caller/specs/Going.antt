@@ -33,7 +33,7 @@ true_caller meaning owed c = record c { machine = after_run_if meaning owed c.ma
 abbrev pub with_machine : {W : Type 0} → Caller W → Machine W → Caller W
 with_machine c m = record c { machine = m }
 
--- the true caller, if its machine lags behind: its call has come to the place p, after k steps more
+-- the true caller, if its machine lags: its call has come to the place p, after k steps more
 abbrev pub lagging_caller : {W : Type 0} → Caller W → Place → (k : ℕ) → Caller W
 lagging_caller c p k = with_machine c (at_place c.machine p k)
 

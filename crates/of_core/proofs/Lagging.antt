@@ -1,5 +1,5 @@
--- What the steps of a machine that lags behind are, and where each leads to.
-use Rattle.std.proofs.Common.{◌≡◌, ℕ, ◌+◌, ◌<◌, ◌≤◌, length, Bool, true, false, nat_lt, refl, sym, ap, arith}
+-- What the steps of a machine that lags are, and where each leads to.
+use Rattle.std.proofs.Common.{◌≡◌, ℕ, ◌+◌, ◌<◌, length, Bool, true, false, nat_lt, refl, sym, ap, arith}
 use Rattle.std.proofs.lemmas.Bool.Decides.{nat_tests}
 use Rattle.of_cell.specs.Words.{seq_of}
 use Rattle.of_mem.specs.Meaning.{Meaning}
@@ -9,10 +9,10 @@ use Rattle.of_core.specs.Table.{Setup}
 use Rattle.of_core.specs.Machine.{CallState, log_words}
 use Rattle.of_core.specs.MachineValue.{Machine}
 use Rattle.of_core.specs.Steps.{want, want_at, take_word, take_word_at, with_step_counted, after_raise_log, after_load_target, next_entry}
-use Rattle.of_core.specs.Lagging.{call_at, at_place, after_lagging, word_place, word_place_if, entry_place, entry_place_if, target_place, target_place_if}
+use Rattle.of_core.specs.Lagging.{lagging_call, at_place, after_lagging, log_word_place, log_word_place_if, entry_place, entry_place_if, target_place, target_place_if}
 
 -- the step of a place doesn't depend on the machine's own place, or on its count
-pub same_op : (S : Setup) (d : CallState) (q : Place) (k : ℕ) (p : Place) → want_at S (call_at d q k) p ≡ want_at S d p
+pub same_op : (S : Setup) (d : CallState) (q : Place) (k : ℕ) (p : Place) → want_at S (lagging_call d q k) p ≡ want_at S d p
 same_op S d q k Idle = refl
 same_op S d q k TryCurrent = refl
 same_op S d q k TryRequest = refl
@@ -45,17 +45,17 @@ same_op S d q k CloseRequest = refl
 same_op S d q k RaiseClosed = refl
 
 -- the true machine's next step is the one of the place that it has come to
-pub true_want : (S : Setup) (d : CallState) (p : Place) (k : ℕ) → want_at S d p ≡ want S (call_at d p k)
+pub true_want : (S : Setup) (d : CallState) (p : Place) (k : ℕ) → want_at S d p ≡ want S (lagging_call d p k)
 unfolding want
-true_want S d p k = let same : want_at S (call_at d p k) p ≡ want_at S d p = same_op S d p k p in sym same
+true_want S d p k = let same : want_at S (lagging_call d p k) p ≡ want_at S d p = same_op S d p k p in sym same
 
 -- the true machine goes on from this place
-pub true_take : (S : Setup) (d : CallState) (p : Place) (k found : ℕ) → take_word_at S (with_step_counted p (call_at d p k)) found p ≡ take_word S (call_at d p k) found
+pub true_take : (S : Setup) (d : CallState) (p : Place) (k found : ℕ) → take_word_at S (with_step_counted p (lagging_call d p k)) found p ≡ take_word S (lagging_call d p k) found
 unfolding take_word
 true_take S d p k found = refl
 
 module _ {X : Type 0} (meaning : X → Meaning) (m : Machine X) where
-  -- a machine that doesn't lag behind
+  -- a machine that doesn't lag
   pub at_own : (p : Place) → p ≡ m.call.place → at_place m p 0 ≡ m
   at_own p here = λ i. record m { call = record m.call { place = here i; steps = none i } }
     where
@@ -71,10 +71,10 @@ module _ {X : Type 0} (meaning : X → Meaning) (m : Machine X) where
     pub word_stored : (x : ℕ) → after_lagging meaning m (StoreLog x) k n ≡ at_place m (RaiseLog x) (k + 1)
     word_stored x = more (RaiseLog x)
 
-    pub word_raised : (x : ℕ) → after_lagging meaning m (RaiseLog x) k n ≡ at_place m (word_place m.call (x + 1)) (k + 1)
+    pub word_raised : (x : ℕ) → after_lagging meaning m (RaiseLog x) k n ≡ at_place m (log_word_place m.call (x + 1)) (k + 1)
     word_raised x = go (nat_lt (x + 1) (length (log_words m.call.log)))
       where
-        go : (b : Bool) → record m { call = after_raise_log (record m.call { place = RaiseLog x; steps = m.call.steps + k + 1 }) x b } ≡ at_place m (word_place_if b (x + 1)) (k + 1)
+        go : (b : Bool) → record m { call = after_raise_log (record m.call { place = RaiseLog x; steps = m.call.steps + k + 1 }) x b } ≡ at_place m (log_word_place_if b (x + 1)) (k + 1)
         go true = more (StoreLog (x + 1))
         go false = more StoreRequest
 
@@ -100,20 +100,8 @@ module _ {X : Type 0} (meaning : X → Meaning) (m : Machine X) where
         go false = more CloseRequest
 
 -- where a loop over log words or entries goes on, and where it ends
-pub word_left : (d : CallState) (x : ℕ) → x < length (log_words d.log) → word_place d x ≡ StoreLog x
-word_left d x l = let t : nat_lt x (length (log_words d.log)) ≡ true = grind (arith, nat_tests) in ap (λ (b : Bool). word_place_if b x) t
-
-pub no_word_left : (d : CallState) (x : ℕ) → length (log_words d.log) ≤ x → word_place d x ≡ StoreRequest
-no_word_left d x l = let t : nat_lt x (length (log_words d.log)) ≡ false = grind (arith, nat_tests) in ap (λ (b : Bool). word_place_if b x) t
+pub word_left : (d : CallState) (x : ℕ) → x < length (log_words d.log) → log_word_place d x ≡ StoreLog x
+word_left d x l = let t : nat_lt x (length (log_words d.log)) ≡ true = grind (arith, nat_tests) in ap (λ (b : Bool). log_word_place_if b x) t
 
 pub entry_left : (d : CallState) (j : ℕ) → j < length d.log → entry_place d j ≡ LoadTarget j
 entry_left d j l = let t : nat_lt j (length d.log) ≡ true = grind (arith, nat_tests) in ap (λ (b : Bool). entry_place_if b j) t
-
-pub no_entry_left : (d : CallState) (j : ℕ) → length d.log ≤ j → entry_place d j ≡ CloseRequest
-no_entry_left d j l = let t : nat_lt j (length d.log) ≡ false = grind (arith, nat_tests) in ap (λ (b : Bool). entry_place_if b j) t
-
-pub older_target : (d : CallState) (j n : ℕ) → seq_of n < d.seq → target_place d j n ≡ ExchangeTarget j n
-older_target d j n l = let t : nat_lt (seq_of n) d.seq ≡ true = grind (arith, nat_tests) in ap (λ (b : Bool). target_place_if b j n) t
-
-pub newer_target : (d : CallState) (j n : ℕ) → d.seq ≤ seq_of n → target_place d j n ≡ RaiseTarget j n
-newer_target d j n l = let t : nat_lt (seq_of n) d.seq ≡ false = grind (arith, nat_tests) in ap (λ (b : Bool). target_place_if b j n) t

@@ -1,4 +1,4 @@
--- A machine that lags behind: its call has gone on, by steps that change nothing of the machine but
+-- A machine that lags: its call has gone on, by steps that change nothing of the machine but
 -- its place and its count of steps, and neither is written yet.
 use Rattle.std.specs.Prelude.{◌≢◌, ℕ, ◌+◌, nat_lt, length, Bool, true, false}
 use Rattle.of_cell.specs.Words.{seq_of}
@@ -11,12 +11,12 @@ use Rattle.of_core.specs.MachineValue.{Machine, machine_setup}
 use Rattle.of_core.specs.OwedRun.{after_step_at}
 
 -- the call's state at the place p, after k steps more
-abbrev pub call_at : CallState → Place → (k : ℕ) → CallState
-call_at d p k = record d { place = p; steps = d.steps + k }
+abbrev pub lagging_call : CallState → Place → (k : ℕ) → CallState
+lagging_call d p k = record d { place = p; steps = d.steps + k }
 
 -- the true machine: m at the place p, after k steps more
 abbrev pub at_place : {X : Type 0} → Machine X → Place → (k : ℕ) → Machine X
-at_place m p k = record m { call = call_at m.call p k }
+at_place m p k = record m { call = lagging_call m.call p k }
 
 -- the true machine after its step from the place p, which has found this number
 abbrev pub after_lagging : {X : Type 0} → (X → Meaning) → Machine X → Place → (k found : ℕ)
@@ -27,7 +27,7 @@ after_lagging meaning m p k found = after_step_at meaning p found (at_place m p 
 abbrev pub MayMake : {X : Type 0} → (X → Meaning) → Machine X → Place → Type 0
 MayMake meaning m p = FitsPlace (machine_setup meaning m) m.call p
 
--- a machine may lag behind at the place p: the step of this place isn't the first one of a call, and
+-- a machine may lag at the place p: the step of this place isn't the first one of a call, and
 -- no operation is run there
 pub record MayLag (p : Place) : Type 0 where
   pub open_call : IsOpen p
@@ -37,12 +37,12 @@ pub record MayLag (p : Place) : Type 0 where
 
 -- The places that a loop comes to: the store of log word x, or what follows the log if it has no
 -- word x.
-abbrev pub word_place_if : (more : Bool) → ℕ → Place
-word_place_if true x = StoreLog x
-word_place_if false x = StoreRequest
+abbrev pub log_word_place_if : (more : Bool) → ℕ → Place
+log_word_place_if true x = StoreLog x
+log_word_place_if false x = StoreRequest
 
-abbrev pub word_place : CallState → ℕ → Place
-word_place d x = word_place_if (nat_lt x (length (log_words d.log))) x
+abbrev pub log_word_place : CallState → ℕ → Place
+log_word_place d x = log_word_place_if (nat_lt x (length (log_words d.log))) x
 
 -- the load of entry j's cell, or what follows the apply if the log has no entry j
 abbrev pub entry_place_if : (more : Bool) → ℕ → Place

@@ -328,7 +328,7 @@ impl<W: Work> Machine<W> {
         self.perform_at(place, by, hand)
     }
 
-    /// Performs the atomic step that `place` names, as `perform` does. A machine that lags behind has
+    /// Performs the atomic step that `place` names, as `perform` does. A machine that lags has
     /// another place.
     // in line, and with an arm for each place: it performs its own form of step and goes straight
     // on from there, with one jump by the place

@@ -1,4 +1,4 @@
--- A member whose machine lags behind.
+-- A member whose machine lags.
 use Rattle.std.proofs.Common.{◌≡◌, ℕ, [], ◌∷◌, Bool, List, ap, sym, ◌∙◌}
 use Rattle.of_mem.specs.Meaning.{Meaning}
 use Rattle.of_core.specs.declared.place.Place.{Place}

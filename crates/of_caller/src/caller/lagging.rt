@@ -1,9 +1,9 @@
-//! The loops in which the machine lags behind: a step changes nothing of it but its place and its
+//! The loops in which the machine lags: a step changes nothing of it but its place and its
 //! count of steps, and both are written once, when the loop ends or when the brake denies a step.
 
 ghost use Rattle.std.specs.Prelude.{◌≡◌, ◌+◌, ◌≤◌, IfOk, OnOk, OnErr};
-ghost use Rattle.of_core.specs.Lagging.{after_lagging, word_place, MayMake, MayLag};
-ghost use Rattle.of_core.specs.declared.place.Place.TheVariants.{StoreLog};
+ghost use Rattle.of_core.specs.Lagging.{after_lagging, log_word_place, entry_place, MayMake, MayLag};
+ghost use Rattle.of_core.specs.declared.place.Place.TheVariants.{StoreLog, LoadTarget, ExchangeTarget};
 
 use super::Caller;
 use of_brake::{Brake, Steps};
@@ -17,7 +17,7 @@ impl<W: Work> Caller<W> {
     ghost use Rattle.of_caller.specs.Going.{LeadsOn, LeadsToDenial, GoesTo, IsDeniedAt};
     ghost use Rattle.of_caller.specs.Going.{with_machine, lagging_caller, steps_left};
 
-    /// Makes one step of a call whose machine lags behind: the call has come to `place`, after `more`
+    /// Makes one step of a call whose machine lags: the call has come to `place`, after `more`
     /// steps that the machine hasn't counted. The answer is the word that the step found. If the
     /// brake denies the step, the machine catches up.
     #[inline(always)]
@@ -68,7 +68,7 @@ impl<W: Work> Caller<W> {
         ensures machine { OnOk result (self.new.machine ≡ self.old.machine) }
         ensures goes { OnOk result (GoesTo W.meaning W.lawful B.denials B.left B.answers B.asks
             row.now (lagging_caller self.old (StoreLog at) more) brake.old steps.old
-            (lagging_caller self.new (word_place self.old.machine.call (at + 1)) (more + 2))
+            (lagging_caller self.new (log_word_place self.old.machine.call (at + 1)) (more + 2))
             brake.new steps.new) }
         ensures denied { OnErr result (IsDeniedAt W.meaning W.lawful B.denials B.left B.answers
             B.asks row.now (lagging_caller self.old (StoreLog at) more) brake.old steps.old self.new
@@ -106,6 +106,103 @@ impl<W: Work> Caller<W> {
             more += 2;
         }
         self.machine.go_to(Place::StoreRequest, more);
+        Ok(())
+    }
+
+    /// Exchanges the cell of an entry of the log, in which an older word was found, loads it again,
+    /// and raises its durable word.
+    #[inline(always)]
+    fn exchange_entry<L: Ledger, B: Brake>(
+        &mut self,
+        entry: u32,
+        found: u64,
+        more: u64,
+        row: &Row<W>,
+        brake: &mut B,
+        steps: &mut Steps<L>,
+    ) -> Result<(), Stopped>
+        requires caller { IsCaller W.meaning row.now
+            (lagging_caller self.old (ExchangeTarget entry found) more) }
+        requires may { MayMake W.meaning self.old.machine (LoadTarget entry) }
+        ensures machine { OnOk result (self.new.machine ≡ self.old.machine) }
+        ensures goes { OnOk result (GoesTo W.meaning W.lawful B.denials B.left B.answers B.asks
+            row.now (lagging_caller self.old (ExchangeTarget entry found) more) brake.old steps.old
+            (lagging_caller self.new (entry_place self.old.machine.call (entry + 1)) (more + 3))
+            brake.new steps.new) }
+        ensures denied { OnErr result (IsDeniedAt W.meaning W.lawful B.denials B.left B.answers
+            B.asks row.now (lagging_caller self.old (ExchangeTarget entry found) more) brake.old
+            steps.old self.new brake.new steps.new) }
+    {
+        self.turn_lagging(Place::ExchangeTarget(entry, found), more, row, brake, steps)?;
+        let held = self.turn_lagging(Place::ReloadTarget(entry), more + 1, row, brake, steps)?;
+        self.turn_lagging(Place::RaiseTarget(entry, held), more + 2, row, brake, steps)?;
+        Ok(())
+    }
+
+    /// Applies an entry of the log. The answer is how many steps the machine hasn't counted then.
+    #[inline(always)]
+    fn bring<L: Ledger, B: Brake>(
+        &mut self,
+        entry: u32,
+        more: u64,
+        row: &Row<W>,
+        brake: &mut B,
+        steps: &mut Steps<L>,
+    ) -> Result<u64, Stopped>
+        requires caller { IsCaller W.meaning row.now
+            (lagging_caller self.old (LoadTarget entry) more) }
+        requires may { MayMake W.meaning self.old.machine (LoadTarget entry) }
+        ensures machine { OnOk result (self.new.machine ≡ self.old.machine) }
+        ensures goes { IfOk result (λ now. GoesTo W.meaning W.lawful B.denials B.left B.answers
+            B.asks row.now (lagging_caller self.old (LoadTarget entry) more) brake.old steps.old
+            (lagging_caller self.new (entry_place self.old.machine.call (entry + 1)) now)
+            brake.new steps.new) }
+        ensures denied { OnErr result (IsDeniedAt W.meaning W.lawful B.denials B.left B.answers
+            B.asks row.now (lagging_caller self.old (LoadTarget entry) more) brake.old steps.old
+            self.new brake.new steps.new) }
+    {
+        let found = self.turn_lagging(Place::LoadTarget(entry), more, row, brake, steps)?;
+        if self.machine.is_older(found) {
+            self.exchange_entry(entry, found, more + 1, row, brake, steps)?;
+            return Ok(more + 4);
+        }
+        // another has brought the entry there
+        self.turn_lagging(
+            Place::RaiseTarget(entry, found),
+            more + 1,
+            row,
+            brake,
+            steps,
+        )?;
+        Ok(more + 2)
+    }
+
+    /// Applies the entries of the log from the machine's place on, if the machine has come to one.
+    #[inline(always)]
+    pub(super) fn apply_log<L: Ledger, B: Brake>(
+        &mut self,
+        row: &Row<W>,
+        brake: &mut B,
+        steps: &mut Steps<L>,
+    ) -> Result<(), Stopped>
+        requires caller { IsCaller W.meaning row.now self.old }
+        ensures caller { IsCaller W.meaning row.now self.new }
+        ensures goes { OnOk result (LeadsOn W.meaning W.lawful B.denials B.left B.answers B.asks
+            row.now self.old brake.old steps.old self.new brake.new steps.new) }
+        ensures denied { OnErr result (LeadsToDenial W.meaning W.lawful B.denials B.left B.answers
+            B.asks row.now self.old brake.old steps.old self.new brake.new steps.new) }
+        ensures falls { OnOk result
+            (steps_left W.meaning self.new ≤ steps_left W.meaning self.old) }
+    {
+        let Place::LoadTarget(first) = self.machine.place() else {
+            return Ok(());
+        };
+        let entries = self.machine.log_entries(first);
+        let mut more = 0;
+        for entry in first..entries {
+            more = self.bring(entry, more, row, brake, steps)?;
+        }
+        self.machine.go_to(Place::CloseRequest, more);
         Ok(())
     }
 }

@@ -5,7 +5,7 @@
 ghost use Rattle.std.specs.Prelude.{◌≡◌, ◌<◌, ◌≤◌, ℕ, OnOk, OnErr, Ok, Some, None, IsTrue, length};
 ghost use Rattle.of_mem.specs.declared.work.TheConstants.{MOST_INSTRS};
 ghost use Rattle.of_core.specs.Machine.{IsOpen};
-ghost use Rattle.of_core.specs.declared.place.Place.TheVariants.{CopyLog, LoadTarget, TryCell};
+ghost use Rattle.of_core.specs.declared.place.Place.TheVariants.{CopyLog, TryCell};
 ghost use Rattle.of_core.specs.OwedRun.{OwesRun, with_cell_loaded};
 
 use super::Caller;
@@ -348,9 +348,7 @@ impl<W: Work> Caller<W> {
         ensures falls { OnOk result
             (steps_left W.meaning self.new ≤ steps_left W.meaning self.old) }
     {
-        while let Place::LoadTarget(entry) = self.machine.place() {
-            self.bring(entry, row, brake, steps)?;
-        }
+        self.apply_log(row, brake, steps)?;
         let Place::CloseRequest = self.machine.place() else {
             return Ok(());
         };
@@ -359,43 +357,6 @@ impl<W: Work> Caller<W> {
             return Ok(());
         };
         self.turn(Place::RaiseClosed, row, brake, steps)
-    }
-
-    /// Applies an entry of the log.
-    #[inline(always)]
-    fn bring<L: Ledger, B: Brake>(
-        &mut self,
-        entry: u32,
-        row: &Row<W>,
-        brake: &mut B,
-        steps: &mut Steps<L>,
-    ) -> Result<(), Stopped>
-        requires caller { IsCaller W.meaning row.now self.old }
-        requires here { LoadTarget entry ≡ (caller_call self.old).place }
-        ensures caller { IsCaller W.meaning row.now self.new }
-        ensures goes { OnOk result (LeadsOn W.meaning W.lawful B.denials B.left B.answers B.asks
-            row.now self.old brake.old steps.old self.new brake.new steps.new) }
-        ensures denied { OnErr result (LeadsToDenial W.meaning W.lawful B.denials B.left B.answers
-            B.asks row.now self.old brake.old steps.old self.new brake.new steps.new) }
-        ensures falls { OnOk result
-            (steps_left W.meaning self.new < steps_left W.meaning self.old) }
-    {
-        self.turn(Place::LoadTarget(entry), row, brake, steps)?;
-        if let Place::RaiseTarget(entry, found) = self.machine.place() {
-            return self.turn(Place::RaiseTarget(entry, found), row, brake, steps);
-        }
-        let Place::ExchangeTarget(entry, found) = self.machine.place() else {
-            return Ok(());
-        };
-        self.turn(Place::ExchangeTarget(entry, found), row, brake, steps)?;
-        let Place::ReloadTarget(entry) = self.machine.place() else {
-            return Ok(());
-        };
-        self.turn(Place::ReloadTarget(entry), row, brake, steps)?;
-        let Place::RaiseTarget(entry, found) = self.machine.place() else {
-            return Ok(());
-        };
-        self.turn(Place::RaiseTarget(entry, found), row, brake, steps)
     }
 
     /// Tries a read.

@@ -1,4 +1,4 @@
-//! Steps of a machine that lags behind: such a step changes nothing of the machine but its place and
+//! Steps of a machine that lags: such a step changes nothing of the machine but its place and
 //! its count of steps, and neither is written yet.
 
 ghost use Rattle.std.specs.Prelude.{◌≡◌, ◌≤◌, [], Some, IfOk, OnErr, is_ok};
@@ -24,7 +24,7 @@ impl<W: Work> Row<W> {
     ghost use Rattle.of_row.specs.Rows.{row_start, IsSeatOf, RunsOnRow, IsRowMember, IsMemberOf};
     ghost use Rattle.of_row.specs.Rows.{StepsMember};
 
-    /// Asks the brake once, and makes the step of a machine that lags behind if the brake allows it;
+    /// Asks the brake once, and makes the step of a machine that lags if the brake allows it;
     /// the answer is the word that the step found. The call has come to `place`, by `more` steps that
     /// the machine hasn't counted. Only the member learns of the step: the machine stays as it is.
     #[inline(always)]
