@@ -3,7 +3,6 @@ pub mod Unpacked
 pub mod Meanings
 pub mod Walks
 pub mod FirstReads
-mod Ordered
 pub mod ReadsOnly
 pub mod Resumed
 pub mod Overlay
@@ -29,3 +28,4 @@ pub mod Asking
 pub mod Answering
 pub mod ReadScripts
 pub mod Registers
+pub mod WriteScripts

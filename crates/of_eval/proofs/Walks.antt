@@ -1,15 +1,11 @@
 -- The walk of an operation's words, one by one.
-use Rattle.std.proofs.Common.{◌≡◌, ℕ, ◌+◌, ◌-◌, ◌<◌, ◌≤◌, refl, sym, ◌∙◌, ap, subst, arith, Option, Some, None, Ok, Err, List, [], ◌∷◌, ◌++◌, length, get_or, set, take, drop, replicate, length-drop, take-append-drop, drop_of_length-le}
+use Rattle.std.proofs.Common.{◌≡◌, ℕ, ◌+◌, ◌-◌, ◌<◌, ◌≤◌, refl, sym, ◌∙◌, ap, subst, arith, Option, None, Ok, Err, List, [], ◌∷◌, ◌++◌, length, get_or, set, take, drop, replicate, length-drop, take-append-drop, drop_of_length-le}
 use Rattle.std.proofs.lemmas.List.{drop_more, take_more_set, take_all, get_or-drop, length-take-le}
 use Rattle.of_mem.specs.declared.work.RawReply.{RawReply}
-use Rattle.of_mem.specs.Part.{Part, newest_at}
-use Rattle.of_mem.specs.Places.{register_at, cells_at}
+use Rattle.of_mem.specs.Part.{Part}
+use Rattle.of_mem.specs.Places.{cells_at}
 use Rattle.of_mem.specs.declared.plot.TheConstants.{MOST_BLOCKS}
 use Rattle.of_mem.specs.Programs.{Program, Done, Lacks, Ends, then_do, run_program, program_answer, memory_after}
-use Rattle.of_mem.specs.declared.plot.Plot.{Plot}
-use Rattle.of_mem.specs.Numbers.{IsNumber}
-use Rattle.of_mem.specs.Plots.{base}
-use Rattle.of_mem.specs.Calls.{HasStore}
 use Rattle.of_mem.proofs.Runs.{Ended, run_ended, run_then_gives, run_then_needs}
 use Rattle.of_script.specs.declared.instr.TheConstants.{MOST_INSTRS}
 use Rattle.of_script.specs.declared.instr.Cause.{Cause}
@@ -25,12 +21,6 @@ use Rattle.of_eval.specs.ScriptPrograms.{InstrResult, word_program, go_on, words
 use Rattle.of_eval.specs.Instructions.{GivesEffect}
 use Rattle.of_eval.specs.ScriptRuns.{word_acts, instr_leaves, instr_small}
 use Rattle.of_eval.proofs.Unpacked.{nones}
-
--- a register that is known holds a number
-pub register_small : (plot : Plot) (p : Part) (r n a : ℕ) → HasStore plot p → r < 16 → a ≡ register_at (base plot) r → newest_at p a ≡ Some n → IsNumber n
-register_small plot p r n a h l at e =
-    let is : h.memory (register_at (base plot) r) ≡ n = h.part (register_at (base plot) r) n (subst (λ (x : ℕ). newest_at p x ≡ Some n) at e) in
-    let k = (h.stands.holds.registers r l).1 in omega (arith, is, k)
 
 module _ (o blocks : ℕ) where
   pub script_words : (op : List ℕ) → length op ≤ MOST_INSTRS → script_program o blocks op ≡ words_program o blocks (length op) [] op

@@ -1,5 +1,4 @@
-use Rattle.std.proofs.Common.{ℕ, ◌^◌, ◌<◌, ◌∙◌, ap, refl, subst, arith, get_or, length, Ok}
-use Rattle.std.proofs.lemmas.Result.{err_from_is_err_and}
+use Rattle.std.proofs.Common.{ℕ, ◌^◌, ◌<◌, ◌∙◌, ap, subst, arith, get_or, length, Ok}
 use Rattle.of_mem.specs.Calls.{HasStore}
 use Rattle.of_mem.specs.OnDemand.{RunsOn}
 use Rattle.of_mem.specs.Part.{with_known}
@@ -19,7 +18,6 @@ pub loop-i-init : goal.loop-i-init
 loop-i-init g c = record {
   answered = none_answered c.args.plot.now c.args.op.now (g.C.Cells.run c.args.cells.now) c.requires.may.knows c.requires.words.few;
   state = c.requires.may.always;
-  out = refl;
 }
 
 pub run_word-requires : goal.run_word-requires
@@ -28,22 +26,23 @@ run_word-requires g c =
     may_word c.args.plot.now c.args.op.now c.requires.words.few (g.C.Cells.run c.args.cells.now) (g.C.Cells.run c.loop-i.cells) c.loop-i.i _ _ c.loop-i-test.true h.answered (HasState c.args.plot.now) (HasStore c.args.plot.now) c.requires.may
     (λ more e k. state_store c.args.plot.now (with_known more (g.C.Cells.run c.loop-i.cells).part) (h.state more e k))
 
-pub returns-in_err-answer-clause-runs : goal.returns-in_err-answer-clause-runs
-returns-in_err-answer-clause-runs g c =
-    let h = c.loop-i.invariant in
-    let p = err_from_is_err_and c.from_residual.result c.from_residual.ensures.1 in
-    rw (p.1, p.2) (word_lacked c.args.plot.now c.args.op.now c.requires.words.few (g.C.Cells.run c.args.cells.now) (g.C.Cells.run c.loop-i.cells) c.loop-i.i _ _ c.loop-i-test.true h.answered (g.C.Cells.run c.run_word.new.cells) c.in_err-answer.field-0.0 c.in_err-answer.ensures)
-
 pub returns-in-Err-clause-runs : goal.returns-in-Err-clause-runs
 returns-in-Err-clause-runs g c =
     let h = c.loop-i.invariant in
-    rw c.abort_in_cells.ensures (word_aborted c.args.plot.now c.args.op.now c.requires.words.few (g.C.Cells.run c.args.cells.now) (g.C.Cells.run c.loop-i.cells) c.loop-i.i _ _ c.loop-i-test.true h.answered (g.C.Cells.run c.run_word.new.cells) c.in-Err.cause (rw c.in-Err.is at c.in_ok-answer.ensures))
+    word_lacked c.args.plot.now c.args.op.now c.requires.words.few (g.C.Cells.run c.args.cells.now) (g.C.Cells.run c.loop-i.cells) c.loop-i.i _ _ c.loop-i-test.true h.answered
+    (g.C.Cells.run c.run_word.new.cells) c.in-Err.need c.in-Err.ensures
 
-pub returns-in-Err-clause-ended : goal.returns-in-Err-clause-ended
-returns-in-Err-clause-ended g c = ap is_success c.abort_in_cells.ensures ∙ aborted_fails (length c.args.op.now) c.loop-i.i c.in-Err.cause
+pub returns-in-Ok-Err-clause-runs : goal.returns-in-Ok-Err-clause-runs
+returns-in-Ok-Err-clause-runs g c =
+    let h = c.loop-i.invariant in
+    rw c.abort_in_cells.ensures (word_aborted c.args.plot.now c.args.op.now c.requires.words.few (g.C.Cells.run c.args.cells.now) (g.C.Cells.run c.loop-i.cells) c.loop-i.i _ _ c.loop-i-test.true h.answered
+    (g.C.Cells.run c.run_word.new.cells) c.in-Ok-Err.cause (rw c.in-Ok-Err.field-0-is at c.in-Ok-Err.ensures))
 
-pub overflow_add-shape : goal.overflow_add-shape
-overflow_add-shape g c =
+pub returns-in-Ok-Err-clause-aborted : goal.returns-in-Ok-Err-clause-aborted
+returns-in-Ok-Err-clause-aborted g c = ap is_success c.abort_in_cells.ensures ∙ aborted_fails (length c.args.op.now) c.loop-i.i c.in-Ok-Err.cause
+
+pub overflow_add-out : goal.overflow_add-out
+overflow_add-out g c =
     let a = c.loop-i.invariant.answered in
     let below : c.loop-i.i < MOST_INSTRS = omega (arith, c.loop-i-test.true, c.requires.words.few) in
     let marks : mask_of a.answers < 2 ^ MOST_INSTRS = subst (λ (n : ℕ). mask_of a.answers < 2 ^ n) a.width (mask_width a.answers) in
@@ -52,16 +51,15 @@ overflow_add-shape g c =
 pub loop-i-preserved : goal.loop-i-preserved
 loop-i-preserved g c =
     let h = c.loop-i.invariant in
-    let r : RunsOn (run_word c.args.plot.now (get_or c.args.op.now c.loop-i.i 0)) (g.C.Cells.run c.loop-i.cells) (g.C.Cells.run c.run_word.new.cells) (Ok (Ok c.in-Ok.answer)) = rw (← c.in-Ok.is) c.in_ok-answer.ensures in
+    let r : RunsOn (run_word c.args.plot.now (get_or c.args.op.now c.loop-i.i 0)) (g.C.Cells.run c.loop-i.cells) (g.C.Cells.run c.run_word.new.cells) (Ok (Ok c.in-Ok-Ok.answer)) = rw (← c.in-Ok-Ok.field-0-is) c.in-Ok-Ok.ensures in
     record {
       answered = elim c.match-answer.branch [
-        | in-Some w ↦ rw (w.shape-is, w.values-is) (number_answered c.args.plot.now c.args.op.now c.requires.words.few (g.C.Cells.run c.args.cells.now) (g.C.Cells.run c.loop-i.cells) c.loop-i.i _ _ c.loop-i-test.true h.answered
+        | in-Some w ↦ rw w.out-is (number_answered c.args.plot.now c.args.op.now c.requires.words.few (g.C.Cells.run c.args.cells.now) (g.C.Cells.run c.loop-i.cells) c.loop-i.i _ _ c.loop-i-test.true h.answered
             (g.C.Cells.run c.run_word.new.cells) w.in-Some.value _ (bit_is c.loop-i.i (omega (arith, c.loop-i-test.true, c.requires.words.few))) (rw w.in-Some.is at r))
-        | in_default w ↦ rw (w.shape-is, w.values-is) (none_answered_at c.args.plot.now c.args.op.now c.requires.words.few (g.C.Cells.run c.args.cells.now) (g.C.Cells.run c.loop-i.cells) c.loop-i.i _ _ c.loop-i-test.true h.answered
+        | in_default w ↦ rw w.out-is (none_answered_at c.args.plot.now c.args.op.now c.requires.words.few (g.C.Cells.run c.args.cells.now) (g.C.Cells.run c.loop-i.cells) c.loop-i.i _ _ c.loop-i-test.true h.answered
             (g.C.Cells.run c.run_word.new.cells) (rw w.in_default.is at r))
       ];
-      state = state_behind c.args.plot.now c.args.op.now c.requires.words.few (g.C.Cells.run c.args.cells.now) (g.C.Cells.run c.loop-i.cells) c.loop-i.i _ _ c.loop-i-test.true h.answered (g.C.Cells.run c.run_word.new.cells) c.in-Ok.answer h.state r;
-      out = h.out;
+      state = state_behind c.args.plot.now c.args.op.now c.requires.words.few (g.C.Cells.run c.args.cells.now) (g.C.Cells.run c.loop-i.cells) c.loop-i.i _ _ c.loop-i-test.true h.answered (g.C.Cells.run c.run_word.new.cells) c.in-Ok-Ok.answer h.state r;
     }
 
 pub returns-clause-runs : goal.returns-clause-runs
@@ -69,7 +67,7 @@ returns-clause-runs g c =
     let h = c.loop-i.invariant in
     all_answered c.args.plot.now c.args.op.now c.requires.words.few (g.C.Cells.run c.args.cells.now) (g.C.Cells.run c.loop-i.cells) c.loop-i.i _ _ (omega (arith, c.loop-i.auto.i-end, c.loop-i-test.false)) h.answered
 
-pub returns-clause-ended : goal.returns-clause-ended
-returns-clause-ended g c =
+pub returns-clause-aborted : goal.returns-clause-aborted
+returns-clause-aborted g c =
     let h = c.loop-i.invariant in
     all_succeed c.args.plot.now c.args.op.now c.requires.words.few (g.C.Cells.run c.args.cells.now) (g.C.Cells.run c.loop-i.cells) c.loop-i.i _ _ (omega (arith, c.loop-i.auto.i-end, c.loop-i-test.false)) h.answered
