@@ -28,6 +28,14 @@ impl<W: Work> Machine<W> {
         (padded_words(&self.op), self.op.len())
     }
 
+    /// The words of the script that the scan has come to, followed by zeros, and how many they are.
+    pub fn scanned_script(&self) -> ([u64; MOST_INSTRS], usize)
+        ensures words { take result.1 result.0 ≡ self.now.call.script }
+        ensures few { result.1 ≤ MOST_INSTRS }
+    {
+        (padded_words(&self.script), self.script.len())
+    }
+
     /// The caller whose log the call copies or applies as a helper. None if the call does not help.
     pub fn helped(&self) -> Option<u32>
         ensures { result ≡ helped_owner self.now.call }
