@@ -1,6 +1,6 @@
 -- A run that is owed: the machine has come to the run of its try, or of a script of its scan. This
 -- run is made outside of the machine, on cells that the machine loads as they are asked for.
-use Rattle.std.specs.Prelude.{◌≡◌, ℕ, ◌+◌, ◌≤◌, List, [], length, Bool, true, false}
+use Rattle.std.specs.Prelude.{◌≡◌, ℕ, ◌+◌, ◌≤◌, List, [], length, Bool, true, false, if◌then◌else◌}
 use Rattle.of_mem.specs.declared.work.RawReply.{RawReply}
 use Rattle.of_mem.specs.Meaning.{Meaning, WalkEnd, Needs, Gives}
 use Rattle.of_mem.specs.Part.{Part, overlaid}
@@ -20,13 +20,11 @@ load_for false a = TryCell a
 -- what runs: in the scan the script of the caller that the scan has come to, in a try the call's
 -- own operation
 abbrev pub run_words : (in_scan : Bool) → CallState → List ℕ
-run_words true m = m.script
-run_words false m = m.op
+run_words b m = if b then m.script else m.op
 
 -- the writes that the run sees over the known cells: those of the batch, or in a try none
 abbrev pub run_batch : (in_scan : Bool) → CallState → List (ℕ × ℕ)
-run_batch true m = m.log
-run_batch false m = []
+run_batch b m = if b then m.log else []
 
 -- the partial memory that the run sees before it writes
 abbrev pub run_part : (in_scan : Bool) → CallState → Part

@@ -3,6 +3,7 @@
 ghost use Rattle.std.specs.Prelude.{◌≡◌, ◌≤◌, map, take};
 ghost use Rattle.of_mem.specs.declared.work.TheConstants.{MOST_INSTRS};
 ghost use Rattle.of_core.specs.Helping.{helped_owner};
+ghost use Rattle.of_core.specs.OwedRun.{run_words};
 ghost use Rattle.of_core.specs.Inside.{call_value};
 
 use crate::call::Call;
@@ -28,12 +29,17 @@ impl<W: Work> Machine<W> {
         (padded_words(&self.op), self.op.len())
     }
 
-    /// The words of the script that the scan has come to, followed by zeros, and how many they are.
-    pub fn scanned_script(&self) -> ([u64; MOST_INSTRS], usize)
-        ensures words { take result.1 result.0 ≡ self.now.call.script }
+    /// The words that a run of the scan runs, or that the run of a try runs, followed by zeros, and
+    /// how many they are.
+    pub fn run_words(&self, in_scan: bool) -> ([u64; MOST_INSTRS], usize)
+        ensures words { take result.1 result.0 ≡ run_words in_scan self.now.call }
         ensures few { result.1 ≤ MOST_INSTRS }
     {
-        (padded_words(&self.script), self.script.len())
+        if in_scan {
+            (padded_words(&self.script), self.script.len())
+        } else {
+            (padded_words(&self.op), self.op.len())
+        }
     }
 
     /// The caller whose log the call copies or applies as a helper. None if the call does not help.

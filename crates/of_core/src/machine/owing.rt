@@ -3,13 +3,14 @@
 
 ghost use Rattle.std.specs.Prelude.{◌≡◌, ◌≢◌, ◌<◌, ◌≤◌, ℕ, length, Bool, IsTrue, true, false};
 ghost use Rattle.of_mem.specs.Meaning.{Gives};
+ghost use Rattle.of_mem.specs.CellMap.{value_for};
 ghost use Rattle.of_mem.specs.Part.{ReadsAt};
 ghost use Rattle.of_core.specs.Fit.{is_scanning};
 ghost use Rattle.of_core.specs.MachineValue.{machine_setup, machine_after, KnowsState};
 ghost use Rattle.of_core.specs.Meets.{MayTake};
 ghost use Rattle.of_core.specs.OwedRun.{after_run, after_run_if, after_step_at, OwesRun};
 ghost use Rattle.of_core.specs.OwedRun.{open_reading, LacksCell, RunGives, at_load, load_for};
-ghost use Rattle.of_core.specs.OwedRun.{with_cell_loaded, run_end, run_part};
+ghost use Rattle.of_core.specs.OwedRun.{with_cell_loaded, run_end, run_part, run_batch};
 ghost use Rattle.of_core.specs.declared.place.Place.TheVariants.{Idle, TryRequest, TryCell};
 ghost use Rattle.of_core.specs.declared.place.Place.TheVariants.{LoadScript, LoadCell};
 
@@ -17,6 +18,18 @@ use crate::machine::Machine;
 use crate::place::{Outcome, Place};
 use of_cell::{pack, payload_of, seq_of};
 use of_mem::{Need, RawReply, Work, WriteSet};
+
+/// The load of a cell for a run of the scan, or for the run of a try.
+#[inline(always)]
+fn load_place(in_scan: bool, addr: u32) -> Place
+    ensures { result ≡ load_for in_scan addr }
+{
+    if in_scan {
+        Place::LoadCell(addr)
+    } else {
+        Place::TryCell(addr)
+    }
+}
 
 impl<W: Work> Machine<W> {
     /// Goes on after the step that `place`, the machine's place, names, and which found the word
@@ -31,6 +44,8 @@ impl<W: Work> Machine<W> {
         ensures after { after_run_if W.meaning result self.new
             ≡ after_step_at W.meaning place found self.old }
         ensures owes { IsTrue result → OwesRun W.meaning W.lawful self.new }
+        ensures kind { IsTrue result
+            → is_scanning self.new.call.place ≡ is_scanning place }
         ensures loaded { IsTrue result → (in_scan : Bool) (a : ℕ) → place ≡ load_for in_scan a
             → self.new ≡ with_cell_loaded W.meaning self.old a found }
         ensures over { result ≡ false → (in_scan : Bool) (a : ℕ) → place ≡ load_for in_scan a
@@ -57,6 +72,7 @@ impl<W: Work> Machine<W> {
         ensures after { after_run_if W.meaning result self.new
             ≡ after_step_at W.meaning TryRequest found self.old }
         ensures owes { IsTrue result → OwesRun W.meaning W.lawful self.new }
+        ensures kind { IsTrue result → is_scanning self.new.call.place ≡ false }
     {
         self.steps += 1;
         if self.seq > 0 && found == pack(self.seq, 0) {
@@ -90,6 +106,7 @@ impl<W: Work> Machine<W> {
         ensures after { after_run_if W.meaning result self.new
             ≡ after_step_at W.meaning (TryCell addr) found self.old }
         ensures owes { IsTrue result → OwesRun W.meaning W.lawful self.new }
+        ensures kind { IsTrue result → is_scanning self.new.call.place ≡ false }
         ensures loaded { IsTrue result → self.new
             ≡ with_cell_loaded W.meaning self.old addr found }
         ensures over { result ≡ false → self.new.call.known ≡ self.old.call.known }
@@ -112,6 +129,7 @@ impl<W: Work> Machine<W> {
         ensures after { after_run_if W.meaning result self.new
             ≡ after_step_at W.meaning (LoadScript at) found self.old }
         ensures owes { IsTrue result → OwesRun W.meaning W.lawful self.new }
+        ensures kind { IsTrue result → is_scanning self.new.call.place ≡ true }
     {
         self.steps += 1;
         // there is room for the words of every script
@@ -135,13 +153,14 @@ impl<W: Work> Machine<W> {
         ensures after { after_run_if W.meaning result self.new
             ≡ after_step_at W.meaning (LoadCell addr) found self.old }
         ensures owes { IsTrue result → OwesRun W.meaning W.lawful self.new }
+        ensures kind { IsTrue result → is_scanning self.new.call.place ≡ true }
         ensures loaded { IsTrue result → self.new
             ≡ with_cell_loaded W.meaning self.old addr found }
         ensures over { result ≡ false
             → run_part true self.new.call ≡ run_part true self.old.call }
     {
         self.steps += 1;
-        if self.seq < seq_of(found) {
+        if seq_of(found) > self.seq {
             self.place = Place::LoadCurrent;
             return false;
         }
@@ -164,41 +183,47 @@ impl<W: Work> Machine<W> {
     // out of line: a run asks for nothing more after its steps have ended
     #[cold]
     #[inline(never)]
+    #[tactic(auto, unfolding(of_mem::specs::Part::newest_at))]
     pub fn newest_for(&self, in_scan: bool, addr: u32) -> Result<u32, Need>
         requires below { addr < length self.now.call.known }
         ensures { ReadsAt (run_part in_scan self.now.call) addr result }
     {
-        let written = if in_scan { self.log.get(addr) } else { None };
-        match written.or(self.part.part().known(addr)) {
+        match self.batch_write(in_scan, addr).or(self.part.part().known(addr)) {
             Some(value) => Ok(value),
             None => Err(Need { addr }),
         }
     }
 
-    /// Whether the machine is in a scan: a run that it owes is that of the scanned script.
+    /// The write of the batch to a cell, as a run sees it. A try sees none.
+    fn batch_write(&self, in_scan: bool, addr: u32) -> Option<u32>
+        ensures { result ≡ value_for (run_batch in_scan self.now.call) addr }
+    {
+        if in_scan { self.log.get(addr) } else { None }
+    }
+
+    /// Whether the run that is owed is one of the scan.
     #[inline(always)]
-    pub fn is_at_script(&self) -> bool
+    pub fn owes_script(&self) -> bool
         requires { OwesRun W.meaning W.lawful self.now }
         ensures { result ≡ is_scanning self.now.call.place }
     {
         matches!(self.place, Place::LoadCell(_))
     }
 
-    /// Comes to the load of the cell that the owed run needs. `in_scan` says whether the run is that
-    /// of the scanned script.
+    /// Comes to the load of the cell that the owed run needs, and tells this place. `in_scan` says
+    /// whether the run is one of the scan.
     #[inline(always)]
-    pub fn lack(&mut self, in_scan: bool, addr: u32)
+    pub fn lack(&mut self, in_scan: bool, addr: u32) -> Place
         requires owes { OwesRun W.meaning W.lawful self.old }
-        requires in_scan { in_scan ≡ is_scanning self.old.call.place }
+        requires kind { is_scanning self.old.call.place ≡ in_scan }
         requires lacks { LacksCell W.meaning self.old addr }
+        ensures place { result ≡ load_for in_scan addr }
         ensures after { self.new ≡ after_run W.meaning self.old }
         ensures load { self.new ≡ at_load self.old addr }
     {
-        self.place = if in_scan {
-            Place::LoadCell(addr)
-        } else {
-            Place::TryCell(addr)
-        };
+        let place = load_place(in_scan, addr);
+        self.place = place;
+        place
     }
 
     /// Ends the call with the reply of the run of a try that was owed.
@@ -235,7 +260,7 @@ impl<W: Work> Machine<W> {
         requires { OwesRun W.meaning W.lawful self.old }
         ensures { self.new ≡ after_run W.meaning self.old }
     {
-        if self.is_at_script() {
+        if self.owes_script() {
             self.run();
         } else {
             self.read_on();

@@ -207,7 +207,8 @@ impl<W: Work> Machine<W> {
         let words = self.script.len();
         put_own(&mut self.part, self.scan * OWN_CELLS, ticket, words as u32, raw);
         hand_to_log(&mut self.part, &mut self.log);
-        add_call(&mut self.calls, self.scan, ticket, self.script.as_slice(), raw);
+        let op = self.script.as_slice();
+        add_call(&mut self.calls, self.scan, ticket, op, raw);
         self.raw = newer_raw(self.scan == self.caller, raw, &self.raw);
         self.scan += 1;
         self.place = place_behind(self.scan < self.shape.callers);
