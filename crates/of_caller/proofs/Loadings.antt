@@ -17,6 +17,7 @@ use Rattle.of_mem.proofs.Extended.{extends_learnt}
 use Rattle.of_mem.proofs.OnDemand.{extends_all, goes_nowhere}
 use Rattle.of_core.specs.declared.place.Place.{Place}
 use Rattle.of_core.specs.Fit.{is_scanning}
+use Rattle.of_core.specs.Machine.{IsOpen}
 use Rattle.of_core.specs.MachineValue.{Machine, machine_setup}
 use Rattle.of_core.specs.Steps.{after_read_run, after_script_run}
 use Rattle.of_core.specs.OwedRun.{OwesRun, LacksCell, after_run, at_load, with_cell_loaded, load_for, run_words, run_batch, run_part, run_end, make_run}
@@ -363,7 +364,42 @@ module _ {W B : Type 0} (meaning : W → Meaning) (lawful : W → List ℕ → T
       ends (Ok undone) e = is ∙ e
       ends (Err need) e = is ∙ e.0
 
+module _ {W B : Type 0} (meaning : W → Meaning) (lawful : W → List ℕ → Type 0) (denials : B → ℕ) (left : B → Option (Option ℕ)) (answers asks : B → Option ℕ) (r : Row W) (front : Option (Front W B)) (f : Front W B) (is : front ≡ Some f) (in_scan : Bool) (n1 n2 n3 : ℕ) (course : Course) (c : Caller W) (b : B) (s : ℕ) (work : W) (op : List ℕ) (of_row : work ≡ (key_of f.row).work) (same : op ≡ f.words) (goes_on : course ≡ GoesOn) (before : Running) (old new : RawReply) where
+  knows : KnowsFront meaning lawful denials left answers asks r front in_scan n1 n2 n3 course c b s (caller_call c).known → StillOwes meaning lawful denials left answers asks r f c b s × IsLent f r in_scan n1 n2 n3
+  knows k = (
+    subst (λ (x : Course). Stands meaning lawful denials left answers asks r f x c b s) goes_on (knows_of meaning lawful denials left answers asks r front f is in_scan n1 n2 n3 course c b s (caller_call c).known k).0,
+    lent_of meaning lawful denials left answers asks r front f is in_scan n1 n2 n3 course c b s (caller_call c).known k
+  )
+
+  -- how a script that was run from its front has ended
+  pub ran_as : (result : Result Bool Need) → HasRunFrom (meaning work) op before (told meaning lawful denials left answers asks r front in_scan n1 n2 n3 course c b s) result old new → EndsAs meaning c result new
+  ran_as result h =
+      let k = knows h.goes.knows in
+      ends_as meaning lawful denials left answers asks r f c b s work op in_scan result new (λ _. new ≡ old) k.0 (of_row ∙ ap (λ (x : Row W). (key_of x).work) (sym k.1.row)) same k.1.kind h.walk
+
+  -- and a read
+  pub has_read : in_scan ≡ false → HasReadFrom (meaning work) op before (told meaning lawful denials left answers asks r front in_scan n1 n2 n3 course c b s) (Ok tt) old new → EndsAs meaning c (Ok true) new
+  has_read e h =
+      let k = knows h.goes.knows in
+      ends_as meaning lawful denials left answers asks r f c b s work op in_scan (Ok true) new (λ _. new ≡ old) k.0 (of_row ∙ ap (λ (x : Row W). (key_of x).work) (sym k.1.row)) same k.1.kind
+      (subst (λ (x : Bool). (meaning work).walk (overlaid (caller_call c).known (run_batch x (caller_call c))) op ≡ Gives [] new) (sym e) h.walk)
+
+  pub has_lacked : (need : Need) → in_scan ≡ false → HasReadFrom (meaning work) op before (told meaning lawful denials left answers asks r front in_scan n1 n2 n3 course c b s) (Err need) old new → EndsAs meaning c (Err need) new
+  has_lacked need e h =
+      let k = knows h.goes.knows in
+      ends_as meaning lawful denials left answers asks r f c b s work op in_scan (Err need) new (λ _. new ≡ old) k.0 (of_row ∙ ap (λ (x : Row W). (key_of x).work) (sym k.1.row)) same k.1.kind
+      (subst (λ (x : Bool). (meaning work).walk (overlaid (caller_call c).known (run_batch x (caller_call c))) op ≡ Needs need.addr) (sym e) h.walk.0, h.walk.2)
+
+pub some_also : {A : Type 0} (result : Option A) (G H : A → Type 0) → ((a : A) → G a → H a) → IfSome result G → IfSome result H
+some_also None G H on h = h
+some_also (Some a) G H on h = on a h
+
 -- what is so of both ends of a call that either went on or left all as it was
 pub some_or_same : {A X : Type 0} (before after : X) (result : Option A) (G : A → Type 0) (Q : Type 0) (P : X → Type 0) → ((a : A) → G a → P after) → P before → IfSome result G → IfNone result ((after ≡ before) × Q) → P after
 some_or_same before after None G Q P on p some none = subst P (sym none.0) p
 some_or_same before after (Some a) G Q P on p some none = on a some
+
+-- at the load of a cell the call is open
+pub load_open : (b : Bool) (a : ℕ) → IsOpen (load_for b a)
+load_open true a = refl
+load_open false a = refl

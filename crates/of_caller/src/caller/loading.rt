@@ -1,11 +1,12 @@
 //! Runs on cells that a call loads. An operation runs once, and each cell that the run asks for and
 //! that is not known yet is loaded by a step of the call.
 
-ghost use Rattle.std.specs.Prelude.{◌≡◌, ◌≤◌, Option, Some, None, true, length};
+ghost use Rattle.std.specs.Prelude.{◌≡◌, ◌≤◌, [], Option, Some, None, true, length};
 ghost use Rattle.std.specs.Prelude.{OnOk, OnErr, IfSome};
 ghost use Rattle.of_mem.specs.declared.work.TheConstants.{MOST_INSTRS};
+ghost use Rattle.of_mem.specs.Meaning.{Gives};
 ghost use Rattle.of_core.specs.Fit.{is_scanning};
-ghost use Rattle.of_core.specs.OwedRun.{OwesRun, after_run, run_words};
+ghost use Rattle.of_core.specs.OwedRun.{OwesRun, after_run, run_end, run_words};
 
 use super::Caller;
 use of_brake::{Brake, Steps};
@@ -67,8 +68,9 @@ impl<'c, 'r, 'b, 's, W: Work, L: Ledger, B: Brake, O: LoadArgs<W, B>> Cells
         let Course::GoesOn = self.course else {
             return self.caller.machine.newest_for(self.in_scan, addr);
         };
-        if let Ok(value) = self.caller.machine.newest(addr) {
-            return Ok(value);
+        match self.caller.machine.newest(addr) {
+            Ok(value) => return Ok(value),
+            Err(_) => {}
         }
         let place = self.caller.machine.lack(self.in_scan, addr);
         match self
@@ -162,6 +164,35 @@ impl<W: Work> Caller<W> {
             ≤ steps_left W.meaning (true_caller W.meaning true self.old)) }
     {
         self.writes.clear();
+        self.run_afresh(in_scan, words, row, brake, steps)
+    }
+
+    /// Does what `run_on_cells` does, with nothing written yet.
+    #[inline(always)]
+    fn run_afresh<L: Ledger, B: Brake>(
+        &mut self,
+        in_scan: bool,
+        words: &[u64],
+        row: &Row<W>,
+        brake: &mut B,
+        steps: &mut Steps<L>,
+    ) -> Result<(), Stopped>
+        requires caller { IsCaller W.meaning row.now (true_caller W.meaning true self.old) }
+        requires owes { OwesRun W.meaning W.lawful self.old.machine }
+        requires kind { is_scanning (caller_call self.old).place ≡ in_scan }
+        requires words { words.now ≡ run_words in_scan (caller_call self.old) }
+        requires few { length words.now ≤ MOST_INSTRS }
+        requires fresh { self.old.writes.entries ≡ [] }
+        ensures caller { IsCaller W.meaning row.now self.new }
+        ensures goes { OnOk result (LeadsOn W.meaning W.lawful B.denials B.left B.answers B.asks
+            row.now (true_caller W.meaning true self.old) brake.old steps.old self.new brake.new
+            steps.new) }
+        ensures denied { OnErr result (LeadsToDenial W.meaning W.lawful B.denials B.left B.answers
+            B.asks row.now (true_caller W.meaning true self.old) brake.old steps.old self.new
+            brake.new steps.new) }
+        ensures falls { OnOk result (steps_left W.meaning self.new
+            ≤ steps_left W.meaning (true_caller W.meaning true self.old)) }
+    {
         let mut reply = RawReply {
             shape: 0,
             values: [0; MOST_INSTRS],
@@ -186,13 +217,12 @@ impl<W: Work> Caller<W> {
             told: _,
         } = cells;
         match course {
-            Course::GoesOn => {
-                self.end_run(in_scan, ran, &reply);
-                Ok(())
-            }
-            Course::HasEnded => Ok(()),
-            Course::WasDenied => Err(Stopped),
+            Course::GoesOn => {}
+            Course::HasEnded => return Ok(()),
+            Course::WasDenied => return Err(Stopped),
         }
+        self.end_run(in_scan, ran, &reply);
+        Ok(())
     }
 
     /// Runs the words on cells that the call loads. They hold the same caller, brake and count of
@@ -258,13 +288,28 @@ impl<W: Work> Caller<W> {
             Some(Ok(undone)) => {
                 if undone {
                     self.writes.clear();
+                    return self.finish_run(in_scan, reply);
                 }
-                if in_scan {
-                    self.machine.join_batch(&self.writes, reply);
-                } else {
-                    self.machine.answer_read(reply);
-                }
+                self.finish_run(in_scan, reply)
             }
+        }
+    }
+
+    /// Ends the run that the machine owes, which gave this reply and the writes of the write-set.
+    fn finish_run(&mut self, in_scan: bool, reply: &RawReply)
+        requires owes { OwesRun W.meaning W.lawful self.old.machine }
+        requires kind { is_scanning (caller_call self.old).place ≡ in_scan }
+        requires room { self.old.writes.room ≡ self.old.machine.cells }
+        requires gives { run_end W.meaning self.old.machine
+            ≡ Gives self.old.writes.entries reply.now }
+        ensures machine { self.new.machine ≡ after_run W.meaning self.old.machine }
+        ensures member { self.new.member ≡ self.old.member }
+        ensures writes { self.new.writes ≡ self.old.writes }
+    {
+        if in_scan {
+            self.machine.join_batch(&self.writes, reply);
+        } else {
+            self.machine.answer_read(reply);
         }
     }
 }
