@@ -228,7 +228,7 @@ module _ {W B : Type 0} (meaning : W → Meaning) (lawful : W → List ℕ → T
         let kind = ap (λ (x : Machine W). is_scanning x.call.place) is ∙ load_kind (is_scanning (caller_call c).place) a ∙ h.kind in
         let bare = unknown_under (run_part f.in_scan (caller_call c)) a none in
         let there : newest_at (run_cells f.in_scan d) a ≡ Some v = newest_learnt (run_cells f.in_scan d) a v (ap (λ (es : List (ℕ × ℕ)). value_for es a) script ∙ own) (ap (λ (es : List (ℕ × ℕ)). value_for es a) batch ∙ bare.0)
-                (ap (λ (k : List (Option ℕ)). get_or k a None) known ∙ get_or-set_same (caller_call c).known a (Some v) None below) in
+        (ap (λ (k : List (Option ℕ)). get_or k a None) known ∙ get_or-set_same (caller_call c).known a (Some v) None below) in
         let parts : run_cells f.in_scan d ≡ with_known (caller_call d).known (run_cells f.in_scan c) = λ i. record { known = (caller_call d).known; batch = batch i; script = script i } in
         record {
           walk = subst (λ (p : Part). RunsAs (read_cell a) p v (run_cells f.in_scan d)) parts (run_read a Done (run_cells f.in_scan d) v there);
@@ -368,7 +368,7 @@ module _ {W B : Type 0} (meaning : W → Meaning) (lawful : W → List ℕ → T
   knows : KnowsFront meaning lawful denials left answers asks r front in_scan n1 n2 n3 course c b s (caller_call c).known → StillOwes meaning lawful denials left answers asks r f c b s × IsLent f r in_scan n1 n2 n3
   knows k = (
     subst (λ (x : Course). Stands meaning lawful denials left answers asks r f x c b s) goes_on (knows_of meaning lawful denials left answers asks r front f is in_scan n1 n2 n3 course c b s (caller_call c).known k).0,
-    lent_of meaning lawful denials left answers asks r front f is in_scan n1 n2 n3 course c b s (caller_call c).known k
+    lent_of meaning lawful denials left answers asks r front f is in_scan n1 n2 n3 course c b s (caller_call c).known k,
   )
 
   -- how a script that was run from its front has ended

@@ -59,7 +59,7 @@ module _ {W B : Type 0} (meaning : W → Meaning) (lawful : W → List ℕ → T
     part = run_cells f.in_scan c;
     may_know = λ k. Stands f course c b s
         × KnowsSome (lawful (key_of r).work) (key_of r).cells
-            (overlaid k (run_batch f.in_scan (caller_call c)))
+        (overlaid k (run_batch f.in_scan (caller_call c)))
         × (length k ≡ (key_of r).cells);
     lacks = λ k a. (meaning (key_of r).work).walk (overlaid k f.batch) f.words ≡ Needs a;
   }

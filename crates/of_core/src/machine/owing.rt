@@ -188,7 +188,10 @@ impl<W: Work> Machine<W> {
         requires below { addr < length self.now.call.known }
         ensures { ReadsAt (run_part in_scan self.now.call) addr result }
     {
-        match self.batch_write(in_scan, addr).or(self.part.part().known(addr)) {
+        match self
+            .batch_write(in_scan, addr)
+            .or(self.part.part().known(addr))
+        {
             Some(value) => Ok(value),
             None => Err(Need { addr }),
         }

@@ -205,7 +205,13 @@ impl<W: Work> Machine<W> {
         put_writes(&mut self.part, writes);
         let ticket = seq_of(self.heard);
         let words = self.script.len();
-        put_own(&mut self.part, self.scan * OWN_CELLS, ticket, words as u32, raw);
+        put_own(
+            &mut self.part,
+            self.scan * OWN_CELLS,
+            ticket,
+            words as u32,
+            raw,
+        );
         hand_to_log(&mut self.part, &mut self.log);
         let op = self.script.as_slice();
         add_call(&mut self.calls, self.scan, ticket, op, raw);

@@ -39,10 +39,27 @@ invariant_of-self g c =
       instrs = i.instrs;
       durable = i.durable;
       own_log = i.own_log;
-      fit = record { callers = i.fit.callers; cells = i.fit.cells; own_in = i.fit.own_in; limit = i.fit.limit; caller = i.fit.caller; owner = i.fit.owner; upto = i.fit.upto; words = i.fit.words; script = i.fit.script; known = i.fit.known;
-        place = load_fits S d b.place (is_scanning b.place) o.at_load.0 c.args.addr o.at_load.1 here i.fit.place };
-      room = record { log = i.room.log; op = i.room.op; scripts_in = i.room.scripts_in; copy = i.room.copy; calls = i.room.calls;
+      fit = record {
+        callers = i.fit.callers;
+        cells = i.fit.cells;
+        own_in = i.fit.own_in;
+        limit = i.fit.limit;
+        caller = i.fit.caller;
+        owner = i.fit.owner;
+        upto = i.fit.upto;
+        words = i.fit.words;
+        script = i.fit.script;
+        known = i.fit.known;
+        place = load_fits S d b.place (is_scanning b.place) o.at_load.0 c.args.addr o.at_load.1 here i.fit.place;
+      };
+      room = record {
+        log = i.room.log;
+        op = i.room.op;
+        scripts_in = i.room.scripts_in;
+        copy = i.room.copy;
+        calls = i.room.calls;
         scanning = still_scanning b.place (is_scanning b.place) o.at_load.0 c.args.addr o.at_load.1 i.room.scanning;
         reading = still_reading b.place (is_scanning b.place) o.at_load.0 c.args.addr o.at_load.1 i.room.reading;
-        empty = i.room.empty };
+        empty = i.room.empty;
+      };
     })

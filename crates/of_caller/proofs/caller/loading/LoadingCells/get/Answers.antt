@@ -33,7 +33,7 @@ returns-in_default-course g c =
     record {
       part = refl;
       runs = tells g.W.Work.meaning g.W.Work.lawful g.B.Brake.denials g.B.Brake.left g.B.Brake.answers g.B.Brake.asks l.row.now g.O.LoadArgs.front f k.told (read_cell c.args.addr) l.in_scan l.caller.ghost_name l.brake.ghost_name l.steps.ghost_name l.course l.course l.caller.now l.caller.now l.brake.now l.brake.now l.steps.now l.steps.now _ k.lent
-    (read_there g.W.Work.meaning g.W.Work.lawful g.B.Brake.denials g.B.Brake.left g.B.Brake.answers g.B.Brake.asks l.row.now f l.course l.caller.now l.brake.now l.steps.now c.args.addr c.newest_for.result k.knows (sym c.get.ensures ∙ c.in_default.is) seen);
+          (read_there g.W.Work.meaning g.W.Work.lawful g.B.Brake.denials g.B.Brake.left g.B.Brake.answers g.B.Brake.asks l.row.now f l.course l.caller.now l.brake.now l.steps.now c.args.addr c.newest_for.result k.knows (sym c.get.ensures ∙ c.in_default.is) seen);
     }
 
 pub newest-requires-clause-owes : goal.newest-requires-clause-owes
@@ -71,19 +71,29 @@ lack-requires g c =
       lacks = lacks_now g.W.Work.meaning g.W.Work.lawful g.B.Brake.denials g.B.Brake.left g.B.Brake.answers g.B.Brake.asks l.row.now f c0 l.brake.now l.steps.now c.args.addr owes (c.requires.lacks (newest_under (run_cells l.in_scan c0) c.args.addr (sym c.get.ensures ∙ c.in_default.is) ∙ here) f k.told);
     }
 
-pub turn_owing-requires : goal.turn_owing-requires
-turn_owing-requires g c =
+pub turn_owing-requires-clause-caller : goal.turn_owing-requires-clause-caller
+turn_owing-requires-clause-caller g c =
     let l = c.args.self.now in
     let k = c.requires.knows in
     let f = k.first in
     let c0 = l.caller.now in
     let owes : StillOwes g.W.Work.meaning g.W.Work.lawful g.B.Brake.denials g.B.Brake.left g.B.Brake.answers g.B.Brake.asks l.row.now f c0 l.brake.now l.steps.now = subst (λ (x : Course). Stands g.W.Work.meaning g.W.Work.lawful g.B.Brake.denials g.B.Brake.left g.B.Brake.answers g.B.Brake.asks l.row.now f x c0 l.brake.now l.steps.now) c.in-GoesOn.is k.knows.0 in
     let is : ◌≡◌ {A = Caller g.row.W.Denot} (record { member = c0.member; machine = c.lack-place.new.self; writes = c0.writes }) (true_caller g.W.Work.meaning true c0) = λ i. record { member = c0.member; machine = c.lack-place.ensures.after i; writes = c0.writes } in
-    record {
-      caller = subst (IsCaller g.W.Work.meaning l.row.now) (sym is) owes.led.caller;
-      here = c.lack-place.ensures.place ∙ ap (λ (b : Bool). load_for b c.args.addr) (k.lent.kind ∙ sym owes.kind) ∙ sym (ap (λ (m : Machine g.row.W.Denot). m.call.place) c.lack-place.ensures.load);
-      open = subst IsOpen (sym c.lack-place.ensures.place) (load_open l.in_scan c.args.addr);
-    }
+    subst (IsCaller g.W.Work.meaning l.row.now) (sym is) owes.led.caller
+
+pub turn_owing-requires-clause-here : goal.turn_owing-requires-clause-here
+turn_owing-requires-clause-here g c =
+    let l = c.args.self.now in
+    let k = c.requires.knows in
+    let f = k.first in
+    let c0 = l.caller.now in
+    let owes : StillOwes g.W.Work.meaning g.W.Work.lawful g.B.Brake.denials g.B.Brake.left g.B.Brake.answers g.B.Brake.asks l.row.now f c0 l.brake.now l.steps.now = subst (λ (x : Course). Stands g.W.Work.meaning g.W.Work.lawful g.B.Brake.denials g.B.Brake.left g.B.Brake.answers g.B.Brake.asks l.row.now f x c0 l.brake.now l.steps.now) c.in-GoesOn.is k.knows.0 in
+    c.lack-place.ensures.place ∙ ap (λ (b : Bool). load_for b c.args.addr) (k.lent.kind ∙ sym owes.kind) ∙ sym (ap (λ (m : Machine g.row.W.Denot). m.call.place) c.lack-place.ensures.load)
+
+pub turn_owing-requires-clause-open : goal.turn_owing-requires-clause-open
+turn_owing-requires-clause-open g c =
+    let l = c.args.self.now in
+    subst IsOpen (sym c.lack-place.ensures.place) (load_open l.in_scan c.args.addr)
 
 pub returns-in-Ok-Some : goal.returns-in-Ok-Some
 returns-in-Ok-Some g c =
@@ -105,7 +115,7 @@ returns-in-Ok-Some g c =
     record {
       part = only_read g.W.Work.meaning g.W.Work.lawful g.B.Brake.denials g.B.Brake.left g.B.Brake.answers g.B.Brake.asks l.row.now l.in_scan c0 now.self (ap (λ (m : Machine g.row.W.Denot). run_batch l.in_scan m.call) loaded) t.writes;
       runs = tells g.W.Work.meaning g.W.Work.lawful g.B.Brake.denials g.B.Brake.left g.B.Brake.answers g.B.Brake.asks l.row.now g.O.LoadArgs.front f k.told (read_cell c.args.addr) l.in_scan l.caller.ghost_name l.brake.ghost_name l.steps.ghost_name l.course l.course l.caller.now now.self l.brake.now now.brake l.steps.now now.steps _ k.lent
-    (subst (λ (x : Course). RunsOn (read_cell c.args.addr) (loading g.W.Work.meaning g.W.Work.lawful g.B.Brake.denials g.B.Brake.left g.B.Brake.answers g.B.Brake.asks l.row.now f x c0 l.brake.now l.steps.now) (loading g.W.Work.meaning g.W.Work.lawful g.B.Brake.denials g.B.Brake.left g.B.Brake.answers g.B.Brake.asks l.row.now f x now.self now.brake now.steps) (Ok c.payload_of.result)) (sym c.in-GoesOn.is) (loads g.W.Work.meaning g.W.Work.lawful g.B.Brake.denials g.B.Brake.left g.B.Brake.answers g.B.Brake.asks l.row.now f c0 now.self l.brake.now now.brake l.steps.now now.steps c.args.addr c.payload_of.result c.in-Ok-Some.found owes own none c.requires.below ((rw c.in-Ok-Some.field-0-is at t.owes) refl) loaded t.writes c.payload_of.ensures led));
+          (subst (λ (x : Course). RunsOn (read_cell c.args.addr) (loading g.W.Work.meaning g.W.Work.lawful g.B.Brake.denials g.B.Brake.left g.B.Brake.answers g.B.Brake.asks l.row.now f x c0 l.brake.now l.steps.now) (loading g.W.Work.meaning g.W.Work.lawful g.B.Brake.denials g.B.Brake.left g.B.Brake.answers g.B.Brake.asks l.row.now f x now.self now.brake now.steps) (Ok c.payload_of.result)) (sym c.in-GoesOn.is) (loads g.W.Work.meaning g.W.Work.lawful g.B.Brake.denials g.B.Brake.left g.B.Brake.answers g.B.Brake.asks l.row.now f c0 now.self l.brake.now now.brake l.steps.now now.steps c.args.addr c.payload_of.result c.in-Ok-Some.found owes own none c.requires.below ((rw c.in-Ok-Some.field-0-is at t.owes) refl) loaded t.writes c.payload_of.ensures led));
     }
 
 pub returns-in-Ok-None : goal.returns-in-Ok-None
@@ -129,7 +139,7 @@ returns-in-Ok-None g c =
     record {
       part = only_read g.W.Work.meaning g.W.Work.lawful g.B.Brake.denials g.B.Brake.left g.B.Brake.answers g.B.Brake.asks l.row.now l.in_scan c0 now.self (ap (λ (p : Part). p.batch) same) t.writes;
       runs = tells g.W.Work.meaning g.W.Work.lawful g.B.Brake.denials g.B.Brake.left g.B.Brake.answers g.B.Brake.asks l.row.now g.O.LoadArgs.front f k.told (read_cell c.args.addr) l.in_scan l.caller.ghost_name l.brake.ghost_name l.steps.ghost_name l.course HasEnded l.caller.now now.self l.brake.now now.brake l.steps.now now.steps _ k.lent
-    (subst (λ (x : Course). RunsOn (read_cell c.args.addr) (loading g.W.Work.meaning g.W.Work.lawful g.B.Brake.denials g.B.Brake.left g.B.Brake.answers g.B.Brake.asks l.row.now f x c0 l.brake.now l.steps.now) (loading g.W.Work.meaning g.W.Work.lawful g.B.Brake.denials g.B.Brake.left g.B.Brake.answers g.B.Brake.asks l.row.now f HasEnded now.self now.brake now.steps) (Err (record { addr = c.args.addr }))) (sym c.in-GoesOn.is) (stops g.W.Work.meaning g.W.Work.lawful g.B.Brake.denials g.B.Brake.left g.B.Brake.answers g.B.Brake.asks l.row.now f HasEnded c0 now.self l.brake.now now.brake l.steps.now now.steps c.args.addr owes own none seen t.writes led));
+          (subst (λ (x : Course). RunsOn (read_cell c.args.addr) (loading g.W.Work.meaning g.W.Work.lawful g.B.Brake.denials g.B.Brake.left g.B.Brake.answers g.B.Brake.asks l.row.now f x c0 l.brake.now l.steps.now) (loading g.W.Work.meaning g.W.Work.lawful g.B.Brake.denials g.B.Brake.left g.B.Brake.answers g.B.Brake.asks l.row.now f HasEnded now.self now.brake now.steps) (Err (record { addr = c.args.addr }))) (sym c.in-GoesOn.is) (stops g.W.Work.meaning g.W.Work.lawful g.B.Brake.denials g.B.Brake.left g.B.Brake.answers g.B.Brake.asks l.row.now f HasEnded c0 now.self l.brake.now now.brake l.steps.now now.steps c.args.addr owes own none seen t.writes led));
     }
 
 pub returns-in-Err-2 : goal.returns-in-Err-2
@@ -151,5 +161,5 @@ returns-in-Err-2 g c =
     record {
       part = only_read g.W.Work.meaning g.W.Work.lawful g.B.Brake.denials g.B.Brake.left g.B.Brake.answers g.B.Brake.asks l.row.now l.in_scan c0 now.self (ap (λ (p : Part). p.batch) same) t.writes;
       runs = tells g.W.Work.meaning g.W.Work.lawful g.B.Brake.denials g.B.Brake.left g.B.Brake.answers g.B.Brake.asks l.row.now g.O.LoadArgs.front f k.told (read_cell c.args.addr) l.in_scan l.caller.ghost_name l.brake.ghost_name l.steps.ghost_name l.course WasDenied l.caller.now now.self l.brake.now now.brake l.steps.now now.steps _ k.lent
-    (subst (λ (x : Course). RunsOn (read_cell c.args.addr) (loading g.W.Work.meaning g.W.Work.lawful g.B.Brake.denials g.B.Brake.left g.B.Brake.answers g.B.Brake.asks l.row.now f x c0 l.brake.now l.steps.now) (loading g.W.Work.meaning g.W.Work.lawful g.B.Brake.denials g.B.Brake.left g.B.Brake.answers g.B.Brake.asks l.row.now f WasDenied now.self now.brake now.steps) (Err (record { addr = c.args.addr }))) (sym c.in-GoesOn.is) (stops g.W.Work.meaning g.W.Work.lawful g.B.Brake.denials g.B.Brake.left g.B.Brake.answers g.B.Brake.asks l.row.now f WasDenied c0 now.self l.brake.now now.brake l.steps.now now.steps c.args.addr owes own none seen t.writes (t.caller, λ c1 b1 s1 h. denied c1 b1 s1 (owes.led.goes c1 b1 s1 h))));
+          (subst (λ (x : Course). RunsOn (read_cell c.args.addr) (loading g.W.Work.meaning g.W.Work.lawful g.B.Brake.denials g.B.Brake.left g.B.Brake.answers g.B.Brake.asks l.row.now f x c0 l.brake.now l.steps.now) (loading g.W.Work.meaning g.W.Work.lawful g.B.Brake.denials g.B.Brake.left g.B.Brake.answers g.B.Brake.asks l.row.now f WasDenied now.self now.brake now.steps) (Err (record { addr = c.args.addr }))) (sym c.in-GoesOn.is) (stops g.W.Work.meaning g.W.Work.lawful g.B.Brake.denials g.B.Brake.left g.B.Brake.answers g.B.Brake.asks l.row.now f WasDenied c0 now.self l.brake.now now.brake l.steps.now now.steps c.args.addr owes own none seen t.writes (t.caller, λ c1 b1 s1 h. denied c1 b1 s1 (owes.led.goes c1 b1 s1 h))));
     }
