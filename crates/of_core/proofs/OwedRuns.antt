@@ -112,3 +112,25 @@ unfolding write
 wrote_part p q u es i a v e w is l =
     w ∙ ap (λ (d : Part). write d a v) e ∙ ap (λ (ds : List (ℕ × ℕ)). record p { script = ds })
     (ap (λ (x : ℕ × ℕ). put_pair (put_all [] (take i es)) x.0 x.1) is ∙ sym (put_all_take [] es i (0, 0) l))
+
+-- ---- places that are the load of a cell for a run, and others
+pub is_load : Place → Bool
+is_load (TryCell a) = true
+is_load (LoadCell a) = true
+is_load p = false
+
+pub no_load : {P : Type 0} (p : Place) (b : Bool) (a : ℕ) → (p ≡ TryCell a → ⊥) → (p ≡ LoadCell a → ⊥) → p ≡ load_for b a → P
+no_load p true a t s e = absurd (s e)
+no_load p false a t s e = absurd (t e)
+
+pub other_place : {P : Type 0} (p : Place) (b : Bool) (a : ℕ) → is_load p ≡ false → p ≡ load_for b a → P
+other_place p true a n e = no_case (sym n ∙ ap is_load e)
+other_place p false a n e = no_case (sym n ∙ ap is_load e)
+
+pub same_try : (b : Bool) (x a : ℕ) → TryCell x ≡ load_for b a → (b ≡ false) × (x ≡ a)
+same_try true x a e = absurd (let k : TryCell x ≡ LoadCell a = e in cc)
+same_try false x a e = let k : TryCell x ≡ TryCell a = e in (refl, cc)
+
+pub same_script : (b : Bool) (x a : ℕ) → LoadCell x ≡ load_for b a → (b ≡ true) × (x ≡ a)
+same_script true x a e = let k : LoadCell x ≡ LoadCell a = e in (refl, cc)
+same_script false x a e = absurd (let k : LoadCell x ≡ TryCell a = e in cc)
