@@ -134,3 +134,7 @@ same_try false x a e = let k : TryCell x ≡ TryCell a = e in (refl, cc)
 pub same_script : (b : Bool) (x a : ℕ) → LoadCell x ≡ load_for b a → (b ≡ true) × (x ≡ a)
 same_script true x a e = let k : LoadCell x ≡ LoadCell a = e in (refl, cc)
 same_script false x a e = absurd (let k : LoadCell x ≡ TryCell a = e in cc)
+
+pub not_script : (p : Place) (b : Bool) (a : ℕ) → p ≡ load_for b a → (p ≡ LoadCell a → ⊥) → false ≡ b
+not_script p true a q n = absurd (n q)
+not_script p false a q n = refl

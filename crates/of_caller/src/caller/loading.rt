@@ -257,7 +257,8 @@ impl<W: Work> Caller<W> {
         // the row has as many cells as its work
         let _ = cells.row.shape();
         let work = cells.row.work();
-        if cells.in_scan {
+        let in_scan = cells.in_scan;
+        if in_scan {
             return work.run_from(cells, words, reply);
         }
         match work.read_from(cells, words, reply) {
