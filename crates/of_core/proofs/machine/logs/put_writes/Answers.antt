@@ -15,3 +15,9 @@ loop-i-preserved g c =
     record {
       part = wrote_part c.args.part.now c.loop-i.part c.write.new.part es i _ _ c.loop-i.invariant.part c.write.ensures.writes c.entry-addr.ensures.value here;
     }
+
+pub returns : goal.returns
+returns g c =
+    let es : List (ℕ × ℕ) = c.args.writes.now.entries in
+    let all : take c.loop-i.i es ≡ es = take_all c.loop-i.i es (omega (arith, c.len-i-end.ensures.value)) in
+    c.loop-i.invariant.part ∙ ap (λ (ds : List (ℕ × ℕ)). record c.args.part.now { script = put_all [] ds }) all ∙ ap (λ (ds : List (ℕ × ℕ)). record c.args.part.now { script = ds }) (put_whole c.args.writes.now c.len-i-end.ensures.map)
