@@ -20,7 +20,7 @@ use Rattle.of_core.specs.Fit.{is_scanning}
 use Rattle.of_core.specs.Machine.{IsOpen}
 use Rattle.of_core.specs.MachineValue.{Machine, machine_setup}
 use Rattle.of_core.specs.Steps.{after_read_run, after_script_run}
-use Rattle.of_core.specs.OwedRun.{OwesRun, LacksCell, after_run, at_load, with_cell_loaded, load_for, run_words, run_batch, run_part, run_end, make_run}
+use Rattle.of_core.specs.OwedRun.{OwesRun, LacksCell, after_run, at_load, with_cell_loaded, load_for, owed_words, run_batch, run_part, run_end, make_run}
 use Rattle.of_row.specs.declared.row.Row.{Row}
 use Rattle.of_row.specs.Rows.{RunsOnRow, key_of}
 use Rattle.of_caller.specs.declared.caller.Caller.{Caller}
@@ -29,7 +29,7 @@ use Rattle.of_caller.specs.declared.caller.loading.Course.TheVariants.{GoesOn, H
 use Rattle.of_caller.specs.Callers.{IsCaller, caller_call}
 use Rattle.of_caller.specs.Going.{HasGone, IsDenied, LeadsOn, LeadsToDenial, true_caller, steps_left, steps_to_go}
 use Rattle.of_caller.specs.Fronts.{Front, IsLent, front_now}
-use Rattle.of_caller.specs.Loading.{HasLed, StillOwes, Stands, EndsAs, run_cells, loading, KnowsFront, told}
+use Rattle.of_caller.specs.Loading.{HasLed, StillOwes, Stands, RunEndsAs, run_cells, loading, KnowsFront, told}
 
 -- ---- what a run sees of a cell
 -- under its own writes
@@ -154,7 +154,7 @@ module _ {W B : Type 0} (meaning : W → Meaning) (lawful : W → List ℕ → T
     stands_with GoesOn c d b s p m room h = record {
       owes = subst (λ (x : Machine W). OwesRun meaning lawful x) (sym m) h.owes;
       kind = ap (λ (x : Machine W). is_scanning x.call.place) m ∙ h.kind;
-      words = ap (λ (x : Machine W). run_words f.in_scan x.call) m ∙ h.words;
+      words = ap (λ (x : Machine W). owed_words f.in_scan x.call) m ∙ h.words;
       batch = ap (λ (x : Machine W). run_batch f.in_scan x.call) m ∙ h.batch;
       led = led_with (true_caller meaning true c) (true_caller meaning true d) b s p (ap (after_run meaning) m) room h.led;
     }
@@ -202,9 +202,9 @@ module _ {W B : Type 0} (meaning : W → Meaning) (lawful : W → List ℕ → T
         → (meaning (key_of r).work).walk (overlaid (caller_call c).known f.batch) f.words ≡ Needs a → LacksCell meaning c.machine a
     lacks_now c b s a h w =
         let words = subst (λ (op : List ℕ). (meaning (key_of r).work).walk (overlaid (caller_call c).known f.batch) op ≡ Needs a) (sym h.words) w in
-        let batch = subst (λ (es : List (ℕ × ℕ)). (meaning (key_of r).work).walk (overlaid (caller_call c).known es) (run_words f.in_scan (caller_call c)) ≡ Needs a) (sym h.batch) words in
-        let kind = subst (λ (k : Bool). (meaning (key_of r).work).walk (overlaid (caller_call c).known (run_batch k (caller_call c))) (run_words k (caller_call c)) ≡ Needs a) (sym h.kind) batch in
-        subst (λ (x : Machine W). (meaning x.work).walk (overlaid (caller_call c).known (run_batch (is_scanning (caller_call c).place) (caller_call c))) (run_words (is_scanning (caller_call c).place) (caller_call c)) ≡ Needs a) (sym (on_row c h.led.caller)) kind
+        let batch = subst (λ (es : List (ℕ × ℕ)). (meaning (key_of r).work).walk (overlaid (caller_call c).known es) (owed_words f.in_scan (caller_call c)) ≡ Needs a) (sym h.batch) words in
+        let kind = subst (λ (k : Bool). (meaning (key_of r).work).walk (overlaid (caller_call c).known (run_batch k (caller_call c))) (owed_words k (caller_call c)) ≡ Needs a) (sym h.kind) batch in
+        subst (λ (x : Machine W). (meaning x.work).walk (overlaid (caller_call c).known (run_batch (is_scanning (caller_call c).place) (caller_call c))) (owed_words (is_scanning (caller_call c).place) (caller_call c)) ≡ Needs a) (sym (on_row c h.led.caller)) kind
 
     -- steps that have led on further
     pub led_on : (c d : Caller W) (b b1 : B) (s s1 : ℕ) → HasLed meaning lawful denials left answers asks r f c b s → IsCaller meaning r d
@@ -235,7 +235,7 @@ module _ {W B : Type 0} (meaning : W → Meaning) (lawful : W → List ℕ → T
           batch = batch;
           goes = record {
             more = subst (λ (k : List (Option ℕ)). Extends k (caller_call c).known) (sym known) (extends_learnt (set (caller_call c).known a (Some v)) (caller_call c).known a v bare.1 (extends_all (set (caller_call c).known a (Some v))));
-            knows = (record { owes = owes; kind = kind; words = ap (λ (x : Machine W). run_words f.in_scan x.call) is ∙ h.words; batch = batch ∙ h.batch; led = led }, knows_owed d (on_row d led.caller) kind owes);
+            knows = (record { owes = owes; kind = kind; words = ap (λ (x : Machine W). owed_words f.in_scan x.call) is ∙ h.words; batch = batch ∙ h.batch; led = led }, knows_owed d (on_row d led.caller) kind owes);
             may_know = λ n k. (h, subst (λ (es : List (ℕ × ℕ)). KnowsSome (lawful (key_of r).work) (key_of r).cells (overlaid n es) × (length n ≡ (key_of r).cells)) batch k.1);
             lacks = λ _ _ k. k;
           };
@@ -317,7 +317,7 @@ module _ {W B : Type 0} (meaning : W → Meaning) (lawful : W → List ℕ → T
   -- the operation may be run from its front
   pub may_tell : (front : Option (Front W B)) (in_scan : Bool) (course : Course) (c : MutBor (Caller W)) (b : MutBor B) (s : MutBor ℕ) (op : List ℕ) (work : W) (size : W → ℕ) → front ≡ Some (front_now meaning r in_scan c b s) → course ≡ GoesOn
       → IsCaller meaning r (true_caller meaning true c.now) → OwesRun meaning lawful c.now.machine → is_scanning (caller_call c.now).place ≡ in_scan → c.now.writes.entries ≡ []
-      → work ≡ (key_of r).work → (key_of r).cells ≡ size (key_of r).work → op ≡ run_words in_scan (caller_call c.now)
+      → work ≡ (key_of r).work → (key_of r).cells ≡ size (key_of r).work → op ≡ owed_words in_scan (caller_call c.now)
       → MayRunFrom (meaning work) (lawful work) (size work) op (told meaning lawful denials left answers asks r front in_scan c.ghost_name b.ghost_name s.ghost_name course c.now b.now s.now)
   may_tell front in_scan course c b s op work size is goes_on q o kind fresh of_row many same =
       let f = front_now meaning r in_scan c b s in
@@ -348,19 +348,19 @@ module _ {W B : Type 0} (meaning : W → Meaning) (lawful : W → List ℕ → T
   -- how the machine's run ended, as the run from its front says it
   pub ends_as : (f : Front W B) (c : Caller W) (b : B) (s : ℕ) (work : W) (op : List ℕ) (in_scan : Bool) (result : Result Bool Need) (new : RawReply) (Q : Need → Type 0) → StillOwes meaning lawful denials left answers asks r f c b s → work ≡ (key_of r).work → op ≡ f.words → in_scan ≡ f.in_scan
       → MatchResult result (λ undone. (meaning work).walk (overlaid (caller_call c).known (run_batch in_scan (caller_call c))) op ≡ Gives (writes_left undone c.writes.entries) new) (λ need. ((meaning work).walk (overlaid (caller_call c).known (run_batch in_scan (caller_call c))) op ≡ Needs need.addr) × Q need)
-      → EndsAs meaning c result new
+      → RunEndsAs meaning c result new
   ends_as f c b s work op in_scan result new Q h of_row same kind ran = ends result ran
     where
       is : run_end meaning c.machine ≡ (meaning work).walk (overlaid (caller_call c).known (run_batch in_scan (caller_call c))) op
       is =
-          ap (λ (x : Machine W). (meaning x.work).walk (overlaid (caller_call c).known (run_batch (is_scanning (caller_call c).place) (caller_call c))) (run_words (is_scanning (caller_call c).place) (caller_call c))) (on_row c h.led.caller)
-          ∙ ap (λ (k : Bool). (meaning (key_of r).work).walk (overlaid (caller_call c).known (run_batch k (caller_call c))) (run_words k (caller_call c))) (h.kind ∙ sym kind)
-          ∙ ap (λ (k : Bool). (meaning (key_of r).work).walk (overlaid (caller_call c).known (run_batch in_scan (caller_call c))) (run_words k (caller_call c))) kind
+          ap (λ (x : Machine W). (meaning x.work).walk (overlaid (caller_call c).known (run_batch (is_scanning (caller_call c).place) (caller_call c))) (owed_words (is_scanning (caller_call c).place) (caller_call c))) (on_row c h.led.caller)
+          ∙ ap (λ (k : Bool). (meaning (key_of r).work).walk (overlaid (caller_call c).known (run_batch k (caller_call c))) (owed_words k (caller_call c))) (h.kind ∙ sym kind)
+          ∙ ap (λ (k : Bool). (meaning (key_of r).work).walk (overlaid (caller_call c).known (run_batch in_scan (caller_call c))) (owed_words k (caller_call c))) kind
           ∙ ap (λ (x : List ℕ). (meaning (key_of r).work).walk (overlaid (caller_call c).known (run_batch in_scan (caller_call c))) x) (h.words ∙ sym same)
           ∙ ap (λ (x : W). (meaning x).walk (overlaid (caller_call c).known (run_batch in_scan (caller_call c))) op) (sym of_row)
 
       ends : (result : Result Bool Need) → MatchResult result (λ undone. (meaning work).walk (overlaid (caller_call c).known (run_batch in_scan (caller_call c))) op ≡ Gives (writes_left undone c.writes.entries) new) (λ need. ((meaning work).walk (overlaid (caller_call c).known (run_batch in_scan (caller_call c))) op ≡ Needs need.addr) × Q need)
-          → EndsAs meaning c result new
+          → RunEndsAs meaning c result new
       ends (Ok undone) e = is ∙ e
       ends (Err need) e = is ∙ e.0
 
@@ -372,19 +372,19 @@ module _ {W B : Type 0} (meaning : W → Meaning) (lawful : W → List ℕ → T
   )
 
   -- how a script that was run from its front has ended
-  pub ran_as : (result : Result Bool Need) → HasRunFrom (meaning work) op before (told meaning lawful denials left answers asks r front in_scan n1 n2 n3 course c b s) result old new → EndsAs meaning c result new
+  pub ran_as : (result : Result Bool Need) → HasRunFrom (meaning work) op before (told meaning lawful denials left answers asks r front in_scan n1 n2 n3 course c b s) result old new → RunEndsAs meaning c result new
   ran_as result h =
       let k = knows h.goes.knows in
       ends_as meaning lawful denials left answers asks r f c b s work op in_scan result new (λ _. new ≡ old) k.0 (of_row ∙ ap (λ (x : Row W). (key_of x).work) (sym k.1.row)) same k.1.kind h.walk
 
   -- and a read
-  pub has_read : in_scan ≡ false → HasReadFrom (meaning work) op before (told meaning lawful denials left answers asks r front in_scan n1 n2 n3 course c b s) (Ok tt) old new → EndsAs meaning c (Ok true) new
+  pub has_read : in_scan ≡ false → HasReadFrom (meaning work) op before (told meaning lawful denials left answers asks r front in_scan n1 n2 n3 course c b s) (Ok tt) old new → RunEndsAs meaning c (Ok true) new
   has_read e h =
       let k = knows h.goes.knows in
       ends_as meaning lawful denials left answers asks r f c b s work op in_scan (Ok true) new (λ _. new ≡ old) k.0 (of_row ∙ ap (λ (x : Row W). (key_of x).work) (sym k.1.row)) same k.1.kind
       (subst (λ (x : Bool). (meaning work).walk (overlaid (caller_call c).known (run_batch x (caller_call c))) op ≡ Gives [] new) (sym e) h.walk)
 
-  pub has_lacked : (need : Need) → in_scan ≡ false → HasReadFrom (meaning work) op before (told meaning lawful denials left answers asks r front in_scan n1 n2 n3 course c b s) (Err need) old new → EndsAs meaning c (Err need) new
+  pub has_lacked : (need : Need) → in_scan ≡ false → HasReadFrom (meaning work) op before (told meaning lawful denials left answers asks r front in_scan n1 n2 n3 course c b s) (Err need) old new → RunEndsAs meaning c (Err need) new
   has_lacked need e h =
       let k = knows h.goes.knows in
       ends_as meaning lawful denials left answers asks r f c b s work op in_scan (Err need) new (λ _. new ≡ old) k.0 (of_row ∙ ap (λ (x : Row W). (key_of x).work) (sym k.1.row)) same k.1.kind

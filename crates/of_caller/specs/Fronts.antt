@@ -2,7 +2,7 @@
 use Rattle.std.specs.Prelude.{◌≡◌, ℕ, List, Bool, true}
 use Rattle.std.specs.Borrow.{MutBor}
 use Rattle.of_mem.specs.Meaning.{Meaning}
-use Rattle.of_core.specs.OwedRun.{run_words, run_batch}
+use Rattle.of_core.specs.OwedRun.{owed_words, run_batch}
 use Rattle.of_row.specs.declared.row.Row.{Row}
 use Rattle.of_caller.specs.declared.caller.Caller.{Caller}
 use Rattle.of_caller.specs.Callers.{caller_call}
@@ -29,7 +29,7 @@ abbrev pub front_now : {W B : Type 0} → (W → Meaning) → Row W → (in_scan
 front_now meaning r in_scan c b s = record {
   row = r;
   in_scan = in_scan;
-  words = run_words in_scan (caller_call c.now);
+  words = owed_words in_scan (caller_call c.now);
   batch = run_batch in_scan (caller_call c.now);
   caller = true_caller meaning true c.now;
   brake = b.now;

@@ -6,7 +6,7 @@ use Rattle.of_mem.specs.Meaning.{Meaning, Needs, Gives, KnowsSome}
 use Rattle.of_mem.specs.OnDemand.{Running, writes_left}
 use Rattle.of_mem.specs.Part.{Part, overlaid}
 use Rattle.of_core.specs.Fit.{is_scanning}
-use Rattle.of_core.specs.OwedRun.{OwesRun, LacksCell, run_words, run_batch, run_part, run_end}
+use Rattle.of_core.specs.OwedRun.{OwesRun, LacksCell, owed_words, run_batch, run_part, run_end}
 use Rattle.of_row.specs.declared.row.Row.{Row}
 use Rattle.of_row.specs.Rows.{key_of}
 use Rattle.of_caller.specs.declared.caller.Caller.{Caller}
@@ -22,8 +22,8 @@ run_cells in_scan c = record (run_part in_scan (caller_call c)) { script = c.wri
 
 -- the run that the caller's machine owes has ended so, on the cells that the machine knows; if it
 -- gave a reply, `undone` says whether its writes are to be undone
-abbrev pub EndsAs : {W : Type 0} → (W → Meaning) → Caller W → Result Bool Need → RawReply → Type 0
-EndsAs meaning c result reply =
+abbrev pub RunEndsAs : {W : Type 0} → (W → Meaning) → Caller W → Result Bool Need → RawReply → Type 0
+RunEndsAs meaning c result reply =
     MatchResult result
     (λ undone. run_end meaning c.machine ≡ Gives (writes_left undone c.writes.entries) reply)
     (λ need. LacksCell meaning c.machine need.addr)
@@ -41,7 +41,7 @@ module _ {W B : Type 0} (meaning : W → Meaning) (lawful : W → List ℕ → T
   pub record StillOwes (f : Front W B) (c : Caller W) (b : B) (s : ℕ) : Type 0 where
     pub owes : OwesRun meaning lawful c.machine
     pub kind : is_scanning (caller_call c).place ≡ f.in_scan
-    pub words : run_words f.in_scan (caller_call c) ≡ f.words
+    pub words : owed_words f.in_scan (caller_call c) ≡ f.words
     pub batch : run_batch f.in_scan (caller_call c) ≡ f.batch
     pub led : HasLed f (true_caller meaning true c) b s
 

@@ -12,7 +12,7 @@ use Rattle.of_core.specs.Fit.{FitsPlace, IsScanning, is_scanning, is_reading}
 use Rattle.of_core.specs.Machine.{CallState}
 use Rattle.of_core.specs.MachineValue.{Machine, machine_setup, machine_after, KnowsState}
 use Rattle.of_core.specs.Steps.{read_on, run_script, after_read_run, after_script_run}
-use Rattle.of_core.specs.OwedRun.{load_for, run_words, run_batch, run_end, make_run, after_run, OwesRun, LacksCell, at_load}
+use Rattle.of_core.specs.OwedRun.{load_for, owed_words, run_batch, run_end, make_run, after_run, OwesRun, LacksCell, at_load}
 use Rattle.of_core.proofs.Puts.{put_all_apart, no_case}
 
 -- puts of all entries of a write-set
@@ -51,7 +51,7 @@ sees_batch p true x batch log q scans reads = scans (ap is_scanning q)
 sees_batch p false x batch log q scans reads = reads (ap is_reading q)
 
 -- a run that needs a cell leads to the load of this cell
-lacked_call : (S : Setup) (d : CallState) (b : Bool) (a : ℕ) → S.meaning.walk (overlaid d.known (run_batch b d)) (run_words b d) ≡ Needs a → record d { place = load_for b a } ≡ make_run b S d
+lacked_call : (S : Setup) (d : CallState) (b : Bool) (a : ℕ) → S.meaning.walk (overlaid d.known (run_batch b d)) (owed_words b d) ≡ Needs a → record d { place = load_for b a } ≡ make_run b S d
 lacked_call S d true a w = sym (ap (after_script_run S d) w)
 lacked_call S d false a w = sym (ap (after_read_run d) w)
 
@@ -61,7 +61,7 @@ module _ {X : Type 0} (meaning : X → Meaning) (m : Machine X) where
 
   -- the run of a script
   pub run_of_script : (r : WalkEnd) → is_scanning m.call.place ≡ true → run_end meaning m ≡ r → (meaning m.work).walk (overlaid m.call.known m.call.log) m.call.script ≡ r
-  run_of_script r e w = subst (λ (b : Bool). (meaning m.work).walk (overlaid m.call.known (run_batch b m.call)) (run_words b m.call) ≡ r) e w
+  run_of_script r e w = subst (λ (b : Bool). (meaning m.work).walk (overlaid m.call.known (run_batch b m.call)) (owed_words b m.call) ≡ r) e w
 
   pub after_script : is_scanning m.call.place ≡ true → after_run meaning m ≡ machine_after meaning run_script m
   after_script e = ap (λ (b : Bool). record m { call = make_run b (machine_setup meaning m) m.call }) e
@@ -71,13 +71,13 @@ module _ {X : Type 0} (meaning : X → Meaning) (m : Machine X) where
 
   module _ (lawful : X → List ℕ → Type 0) (o : OwesRun meaning lawful m) where
     pub script_words : is_scanning m.call.place ≡ true → 1 ≤ length m.call.script
-    script_words e = subst (λ (b : Bool). 1 ≤ length (run_words b m.call)) e o.some
+    script_words e = subst (λ (b : Bool). 1 ≤ length (owed_words b m.call)) e o.some
 
     pub script_state : is_scanning m.call.place ≡ true → KnowsState lawful m (overlaid m.call.known m.call.log)
     script_state e = subst (λ (b : Bool). KnowsSome (lawful m.work) m.cells (overlaid m.call.known (run_batch b m.call))) e o.knows
 
     pub try_words : is_scanning m.call.place ≡ false → 1 ≤ length m.call.op
-    try_words e = subst (λ (b : Bool). 1 ≤ length (run_words b m.call)) e o.some
+    try_words e = subst (λ (b : Bool). 1 ≤ length (owed_words b m.call)) e o.some
 
     pub try_state : is_scanning m.call.place ≡ false → KnowsState lawful m m.call.known
     try_state e = subst (λ (b : Bool). KnowsSome (lawful m.work) m.cells (overlaid m.call.known (run_batch b m.call))) e o.knows
@@ -90,7 +90,7 @@ module _ {X : Type 0} (meaning : X → Meaning) (lawful : X → List ℕ → Typ
       record {
         at_load = (a, q ∙ ap (λ (b : Bool). load_for b a) (sym e));
         reads = λ _. reads;
-        some = subst (λ (b : Bool). 1 ≤ length (run_words b m.call)) (sym e) some;
+        some = subst (λ (b : Bool). 1 ≤ length (owed_words b m.call)) (sym e) some;
         size = size;
         knows = subst (λ (b : Bool). KnowsSome (lawful m.work) m.cells (overlaid m.call.known (run_batch b m.call))) (sym e) knows;
       }
@@ -101,7 +101,7 @@ module _ {X : Type 0} (meaning : X → Meaning) (lawful : X → List ℕ → Typ
       record {
         at_load = (a, q ∙ ap (λ (b : Bool). load_for b a) (sym e));
         reads = λ n. no_case (sym n ∙ e);
-        some = subst (λ (b : Bool). 1 ≤ length (run_words b m.call)) (sym e) some;
+        some = subst (λ (b : Bool). 1 ≤ length (owed_words b m.call)) (sym e) some;
         size = size;
         knows = subst (λ (b : Bool). KnowsSome (lawful m.work) m.cells (overlaid m.call.known (run_batch b m.call))) (sym e) knows;
       }
@@ -114,7 +114,7 @@ wrote_part p q u es i a v e w is l =
     (ap (λ (x : ℕ × ℕ). put_pair (put_all [] (take i es)) x.0 x.1) is ∙ sym (put_all_take [] es i (0, 0) l))
 
 -- ---- places that are the load of a cell for a run, and others
-pub is_load : Place → Bool
+abbrev pub is_load : Place → Bool
 is_load (TryCell a) = true
 is_load (LoadCell a) = true
 is_load p = false

@@ -19,8 +19,8 @@ load_for false a = TryCell a
 
 -- what runs: in the scan the script of the caller that the scan has come to, in a try the call's
 -- own operation
-abbrev pub run_words : (in_scan : Bool) → CallState → List ℕ
-run_words b m = if b then m.script else m.op
+abbrev pub owed_words : (in_scan : Bool) → CallState → List ℕ
+owed_words b m = if b then m.script else m.op
 
 -- the writes that the run sees over the known cells: those of the batch, or in a try none
 abbrev pub run_batch : (in_scan : Bool) → CallState → List (ℕ × ℕ)
@@ -35,7 +35,7 @@ abbrev pub run_end : {X : Type 0} → (X → Meaning) → Machine X → WalkEnd
 run_end meaning m =
     (meaning m.work).walk
     (overlaid m.call.known (run_batch (is_scanning m.call.place) m.call))
-    (run_words (is_scanning m.call.place) m.call)
+    (owed_words (is_scanning m.call.place) m.call)
 
 -- the call's state after the run
 abbrev pub make_run : (in_scan : Bool) → Setup → CallState → CallState
@@ -68,7 +68,7 @@ pub record OwesRun {X : Type 0} (meaning : X → Meaning) (lawful : X → List �
   pub at_load : (a : ℕ) × (m.call.place ≡ load_for (is_scanning m.call.place) a)
   -- the run of a try is that of an operation that only reads
   pub reads : is_scanning m.call.place ≡ false → (meaning m.work).reads_only m.call.op ≡ true
-  pub some : 1 ≤ length (run_words (is_scanning m.call.place) m.call)
+  pub some : 1 ≤ length (owed_words (is_scanning m.call.place) m.call)
   pub size : length m.call.known ≡ m.cells
   pub knows : KnowsState lawful m
       (overlaid m.call.known (run_batch (is_scanning m.call.place) m.call))

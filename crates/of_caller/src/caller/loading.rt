@@ -6,7 +6,7 @@ ghost use Rattle.std.specs.Prelude.{OnOk, OnErr, IfSome};
 ghost use Rattle.of_mem.specs.declared.work.TheConstants.{MOST_INSTRS};
 ghost use Rattle.of_mem.specs.Meaning.{Gives};
 ghost use Rattle.of_core.specs.Fit.{is_scanning};
-ghost use Rattle.of_core.specs.OwedRun.{OwesRun, after_run, run_end, run_words};
+ghost use Rattle.of_core.specs.OwedRun.{OwesRun, after_run, run_end, owed_words};
 
 use super::Caller;
 use of_brake::{Brake, Steps};
@@ -107,7 +107,7 @@ impl<W: Work> Caller<W> {
     ghost use Rattle.of_caller.specs.Callers.{IsCaller, caller_call};
     ghost use Rattle.of_caller.specs.Going.{LeadsOn, LeadsToDenial, true_caller, steps_left};
     ghost use Rattle.of_caller.specs.Fronts.{front_now};
-    ghost use Rattle.of_caller.specs.Loading.{Stands, EndsAs};
+    ghost use Rattle.of_caller.specs.Loading.{Stands, RunEndsAs};
     ghost use Rattle.of_caller.specs.declared.caller.loading.Course.TheVariants.{GoesOn};
 
     /// Makes the run that the machine owes.
@@ -132,7 +132,7 @@ impl<W: Work> Caller<W> {
             ≤ steps_left W.meaning (true_caller W.meaning true self.old)) }
     {
         let in_scan = self.machine.owes_script();
-        let (words, count) = self.machine.run_words(in_scan);
+        let (words, count) = self.machine.owed_words(in_scan);
         self.run_on_cells(in_scan, &words[..count], row, brake, steps)
     }
 
@@ -151,7 +151,7 @@ impl<W: Work> Caller<W> {
         requires caller { IsCaller W.meaning row.now (true_caller W.meaning true self.old) }
         requires owes { OwesRun W.meaning W.lawful self.old.machine }
         requires kind { is_scanning (caller_call self.old).place ≡ in_scan }
-        requires words { words.now ≡ run_words in_scan (caller_call self.old) }
+        requires words { words.now ≡ owed_words in_scan (caller_call self.old) }
         requires few { length words.now ≤ MOST_INSTRS }
         ensures caller { IsCaller W.meaning row.now self.new }
         ensures goes { OnOk result (LeadsOn W.meaning W.lawful B.denials B.left B.answers B.asks
@@ -180,7 +180,7 @@ impl<W: Work> Caller<W> {
         requires caller { IsCaller W.meaning row.now (true_caller W.meaning true self.old) }
         requires owes { OwesRun W.meaning W.lawful self.old.machine }
         requires kind { is_scanning (caller_call self.old).place ≡ in_scan }
-        requires words { words.now ≡ run_words in_scan (caller_call self.old) }
+        requires words { words.now ≡ owed_words in_scan (caller_call self.old) }
         requires few { length words.now ≤ MOST_INSTRS }
         requires fresh { self.old.writes.entries ≡ [] }
         ensures caller { IsCaller W.meaning row.now self.new }
@@ -240,7 +240,7 @@ impl<W: Work> Caller<W> {
             (true_caller W.meaning true cells.old.caller.now) }
         requires owes { OwesRun W.meaning W.lawful cells.old.caller.now.machine }
         requires kind { is_scanning (caller_call cells.old.caller.now).place ≡ cells.old.in_scan }
-        requires words { words.now ≡ run_words cells.old.in_scan
+        requires words { words.now ≡ owed_words cells.old.in_scan
             (caller_call cells.old.caller.now) }
         requires few { length words.now ≤ MOST_INSTRS }
         requires fresh { cells.old.caller.now.writes.entries ≡ [] }
@@ -251,7 +251,7 @@ impl<W: Work> Caller<W> {
             cells.old.row.now (front_now W.meaning cells.old.row.now cells.old.in_scan
             cells.old.caller cells.old.brake cells.old.steps) cells.new.course
             cells.new.caller.now cells.new.brake.now cells.new.steps.now }
-        ensures ran { cells.new.course ≡ GoesOn → IfSome result (λ r. EndsAs W.meaning
+        ensures ran { cells.new.course ≡ GoesOn → IfSome result (λ r. RunEndsAs W.meaning
             cells.new.caller.now r reply.new) }
     {
         // the row has as many cells as its work
@@ -275,7 +275,7 @@ impl<W: Work> Caller<W> {
         requires owes { OwesRun W.meaning W.lawful self.old.machine }
         requires kind { is_scanning (caller_call self.old).place ≡ in_scan }
         requires room { self.old.writes.room ≡ self.old.machine.cells }
-        requires ran { IfSome ran (λ r. EndsAs W.meaning self.old r reply.now) }
+        requires ran { IfSome ran (λ r. RunEndsAs W.meaning self.old r reply.now) }
         ensures machine { self.new.machine ≡ after_run W.meaning self.old.machine }
         ensures member { self.new.member ≡ self.old.member }
         ensures room { self.new.writes.room ≡ self.old.writes.room }

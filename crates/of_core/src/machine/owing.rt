@@ -255,6 +255,7 @@ impl<W: Work> Machine<W> {
         requires gives { run_end W.meaning self.old ≡ Gives writes.now.entries raw.now }
         ensures { self.new ≡ after_run W.meaning self.old }
     {
+        self.may_step();
         self.add_run(writes, raw);
     }
 
@@ -263,6 +264,7 @@ impl<W: Work> Machine<W> {
         requires { OwesRun W.meaning W.lawful self.old }
         ensures { self.new ≡ after_run W.meaning self.old }
     {
+        self.may_step();
         if self.owes_script() {
             self.run();
         } else {

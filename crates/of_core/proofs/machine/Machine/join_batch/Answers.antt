@@ -1,16 +1,13 @@
 use Rattle.std.proofs.Common.{◌∙◌, sym}
 use Rattle.of_core.specs.Fit.{is_scanning}
-use Rattle.of_core.specs.Inside.{machine_value}
 use Rattle.of_core.specs.MachineValue.{machine_setup}
 use Rattle.of_core.proofs.OwedRuns.{scan_fits, script_words, script_state, run_of_script, after_script}
 use Rattle.of_core.proofs.machine.Machine.join_batch.Goals as goal
 
 pub add_run-requires-clause-scan : goal.add_run-requires-clause-scan
 add_run-requires-clause-scan g c =
-    let m = machine_value c.self.inside in
-    let o = rw (← c.self.view_is) at c.requires.owes in
-    let e = rw (← c.self.view_is) at c.requires.scanning in
-    rw (← c.self.view_is) (scan_fits (machine_setup g.W.Work.meaning m) m.call m.call.place (is_scanning m.call.place) o.at_load.0 o.at_load.1 e c.self.invariant.fit.place)
+    let m = c.args.self.now in
+    scan_fits (machine_setup g.W.Work.meaning m) m.call m.call.place (is_scanning m.call.place) c.requires.owes.at_load.0 c.requires.owes.at_load.1 c.requires.scanning c.may_step.ensures
 
 pub add_run-requires-clause-some : goal.add_run-requires-clause-some
 add_run-requires-clause-some g c = script_words g.W.Work.meaning c.args.self.now g.W.Work.lawful c.requires.owes c.requires.scanning

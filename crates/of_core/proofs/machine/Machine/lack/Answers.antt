@@ -3,7 +3,7 @@ use Rattle.of_mem.specs.Part.{overlaid}
 use Rattle.of_mem.specs.Meaning.{IsSoundMeaning}
 use Rattle.of_core.specs.Table.{Setup, setup_of, first_operation_cell}
 use Rattle.of_core.specs.Fit.{is_scanning}
-use Rattle.of_core.specs.OwedRun.{run_batch, run_words}
+use Rattle.of_core.specs.OwedRun.{run_batch, owed_words}
 use Rattle.of_core.proofs.Puts.{sound_at, needs_cell}
 use Rattle.of_core.proofs.OwedRuns.{lacked, load_fits, still_scanning, still_reading}
 use Rattle.of_core.specs.Inside.{machine_value}
@@ -34,7 +34,7 @@ invariant_of-self g c =
     let S : Setup = setup_of b.shape.callers b.shape.cells b.limit M in
     let L = g.W.Work.lawful b.work in
     let sound : IsSoundMeaning M L (first_operation_cell S) S.cells = sound_at S M L _ _ i.fit.callers i.fit.cells refl (laws.sound b.work) in
-    let here : c.args.addr < b.shape.cells = needs_cell S L sound (overlaid d.known (run_batch (is_scanning b.place) d)) (run_words (is_scanning b.place) d) a.0 a.1 a.2 a.3 c.args.addr (rw (← c.self.view_is) at c.requires.lacks) in
+    let here : c.args.addr < b.shape.cells = needs_cell S L sound (overlaid d.known (run_batch (is_scanning b.place) d)) (owed_words (is_scanning b.place) d) a.0 a.1 a.2 a.3 c.args.addr (rw (← c.self.view_is) at c.requires.lacks) in
     rw (c.load_place-place.ensures, kind) (record {
       instrs = i.instrs;
       durable = i.durable;

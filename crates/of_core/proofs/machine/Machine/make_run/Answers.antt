@@ -1,6 +1,5 @@
-use Rattle.std.proofs.Common.{◌≡◌, ◌∙◌, sym, true, false}
+use Rattle.std.proofs.Common.{◌∙◌, sym}
 use Rattle.of_core.specs.Fit.{is_scanning}
-use Rattle.of_core.specs.Inside.{machine_value}
 use Rattle.of_core.specs.MachineValue.{machine_setup}
 use Rattle.of_core.proofs.OwedRuns.{scan_fits, reads_at, script_words, script_state, try_words, try_state, after_script, after_read}
 use Rattle.of_core.proofs.machine.Machine.make_run.Goals as goal
@@ -10,10 +9,8 @@ run-requires-clause-scanning g c = sym c.if-owes_script.ensures
 
 pub run-requires-clause-scan : goal.run-requires-clause-scan
 run-requires-clause-scan g c =
-    let m = machine_value c.self.inside in
-    let o = rw (← c.self.view_is) at c.requires in
-    let e = rw (← c.self.view_is) at (sym c.if-owes_script.ensures) in
-    rw (← c.self.view_is) (scan_fits (machine_setup g.W.Work.meaning m) m.call m.call.place (is_scanning m.call.place) o.at_load.0 o.at_load.1 e c.self.invariant.fit.place)
+    let m = c.args.self.now in
+    scan_fits (machine_setup g.W.Work.meaning m) m.call m.call.place (is_scanning m.call.place) c.requires.at_load.0 c.requires.at_load.1 (sym c.if-owes_script.ensures) c.may_step.ensures
 
 pub run-requires-clause-some : goal.run-requires-clause-some
 run-requires-clause-some g c = script_words g.W.Work.meaning c.args.self.now g.W.Work.lawful c.requires (sym c.if-owes_script.ensures)

@@ -13,7 +13,7 @@ loop-i-preserved g c =
     let i : ℕ = c.loop-i.i in
     let here : i < length es = omega (arith, c.len-i-end.ensures.value) in
     record {
-      part = wrote_part c.args.part.now c.loop-i.part c.write.new.part es i _ _ c.loop-i.invariant.part c.write.ensures.writes c.entry-addr.ensures.value here;
+      part = wrote_part c.args.part.now c.loop-i.part c.write.new.self es i _ _ c.loop-i.invariant.part c.write.ensures.writes c.entry-addr.ensures.value here;
     }
 
 pub returns : goal.returns
