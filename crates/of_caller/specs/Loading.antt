@@ -22,7 +22,8 @@ run_cells in_scan c = record (run_part in_scan (caller_call c)) { script = c.wri
 
 -- the run that the caller's machine owes has ended so, on the cells that the machine knows; if it
 -- gave a reply, `undone` says whether its writes are to be undone
-abbrev pub RunEndsAs : {W : Type 0} → (W → Meaning) → Caller W → Result Bool Need → RawReply → Type 0
+abbrev pub RunEndsAs : {W : Type 0} → (W → Meaning) → Caller W → Result Bool Need → RawReply
+    → Type 0
 RunEndsAs meaning c result reply =
     MatchResult result
     (λ undone. run_end meaning c.machine ≡ Gives (writes_left undone c.writes.entries) reply)

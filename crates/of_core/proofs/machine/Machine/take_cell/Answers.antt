@@ -24,3 +24,8 @@ returns-clause-owes g c = λ _.
 
 pub returns-clause-kind : goal.returns-clause-kind
 returns-clause-kind g c = λ _. rw (← c.self.view_is) at (ap is_scanning c.requires.here)
+
+pub end_try-requires : goal.end_try-requires
+end_try-requires g c =
+    let now = c.args.self.now in
+    record { some = rw (← c.self.view_is) at (cell_words (machine_setup g.W.Work.meaning now) (g.W.Work.lawful now.work) now.call c.args.found c.requires.good c.args.addr c.requires.here) }
