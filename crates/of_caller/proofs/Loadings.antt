@@ -191,8 +191,8 @@ module _ {W B : Type 0} (meaning : W → Meaning) (lawful : W → List ℕ → T
       batch = ap (λ (x : Machine W). run_batch f.in_scan x.call) m;
       goes = record {
         more = subst (λ (x : Machine W). Extends x.call.known (caller_call c).known) (sym m) (extends_all (caller_call c).known);
-        knows = (stands_with course c d b s p m (ap (λ (x : WriteSet). x.room) w) k.0, subst (λ (x : Machine W). KnowsSome (lawful (key_of r).work) (key_of r).cells (overlaid x.call.known (run_batch f.in_scan x.call)) × (length x.call.known ≡ (key_of r).cells)) (sym m) k.1);
-        may_know = λ n h. (k.0, subst (λ (x : Machine W). KnowsSome (lawful (key_of r).work) (key_of r).cells (overlaid n (run_batch f.in_scan x.call)) × (length n ≡ (key_of r).cells)) m h.1);
+        knows = let t = subst (λ (x : Machine W). KnowsSome (lawful (key_of r).work) (key_of r).cells (overlaid x.call.known (run_batch f.in_scan x.call)) × (length x.call.known ≡ (key_of r).cells)) (sym m) (k.1, k.2) in (stands_with course c d b s p m (ap (λ (x : WriteSet). x.room) w) k.0, t.0, t.1);
+        may_know = λ n h. let t = subst (λ (x : Machine W). KnowsSome (lawful (key_of r).work) (key_of r).cells (overlaid n (run_batch f.in_scan x.call)) × (length n ≡ (key_of r).cells)) m (h.1, h.2) in (k.0, t.0, t.1);
         lacks = λ _ _ h. h;
       };
     }
@@ -235,8 +235,8 @@ module _ {W B : Type 0} (meaning : W → Meaning) (lawful : W → List ℕ → T
           batch = batch;
           goes = record {
             more = subst (λ (k : List (Option ℕ)). Extends k (caller_call c).known) (sym known) (extends_learnt (set (caller_call c).known a (Some v)) (caller_call c).known a v bare.1 (extends_all (set (caller_call c).known a (Some v))));
-            knows = (record { owes = owes; kind = kind; words = ap (λ (x : Machine W). owed_words f.in_scan x.call) is ∙ h.words; batch = batch ∙ h.batch; led = led }, knows_owed d (on_row d led.caller) kind owes);
-            may_know = λ n k. (h, subst (λ (es : List (ℕ × ℕ)). KnowsSome (lawful (key_of r).work) (key_of r).cells (overlaid n es) × (length n ≡ (key_of r).cells)) batch k.1);
+            knows = let t = knows_owed d (on_row d led.caller) kind owes in (record { owes = owes; kind = kind; words = ap (λ (x : Machine W). owed_words f.in_scan x.call) is ∙ h.words; batch = batch ∙ h.batch; led = led }, t.0, t.1);
+            may_know = λ n k. let t = subst (λ (es : List (ℕ × ℕ)). KnowsSome (lawful (key_of r).work) (key_of r).cells (overlaid n es) × (length n ≡ (key_of r).cells)) batch (k.1, k.2) in (h, t.0, t.1);
             lacks = λ _ _ k. k;
           };
         }
@@ -255,8 +255,8 @@ module _ {W B : Type 0} (meaning : W → Meaning) (lawful : W → List ℕ → T
           batch = batch;
           goes = record {
             more = subst (λ (k : List (Option ℕ)). Extends k (caller_call c).known) (sym known) (extends_all (caller_call c).known);
-            knows = (stands, subst (λ (p : Part). KnowsSome (lawful (key_of r).work) (key_of r).cells (overlaid p.known p.batch) × (length p.known ≡ (key_of r).cells)) (sym part) (knows_owed c (on_row c h.led.caller) h.kind h.owes));
-            may_know = λ n k. (h, subst (λ (es : List (ℕ × ℕ)). KnowsSome (lawful (key_of r).work) (key_of r).cells (overlaid n es) × (length n ≡ (key_of r).cells)) batch k.1);
+            knows = let t = subst (λ (p : Part). KnowsSome (lawful (key_of r).work) (key_of r).cells (overlaid p.known p.batch) × (length p.known ≡ (key_of r).cells)) (sym part) (knows_owed c (on_row c h.led.caller) h.kind h.owes) in (stands, t.0, t.1);
+            may_know = λ n k. let t = subst (λ (es : List (ℕ × ℕ)). KnowsSome (lawful (key_of r).work) (key_of r).cells (overlaid n es) × (length n ≡ (key_of r).cells)) batch (k.1, k.2) in (h, t.0, t.1);
             lacks = λ _ _ k. k;
           };
         }
@@ -322,9 +322,9 @@ module _ {W B : Type 0} (meaning : W → Meaning) (lawful : W → List ℕ → T
   may_tell front in_scan course c b s op work size is goes_on q o kind fresh of_row many same =
       let f = front_now meaning r in_scan c b s in
       let on : MayRunFrom (meaning (key_of r).work) (lawful (key_of r).work) (size (key_of r).work) op (told meaning lawful denials left answers asks r front in_scan c.ghost_name b.ghost_name s.ghost_name GoesOn c.now b.now s.now) = record {
-        knows = record { first = f; told = is; lent = record { row = refl; kind = refl; caller = refl; brake = refl; steps = refl }; knows = (owes_first c b s in_scan q o kind, knows_owed f c.now (on_row c.now q) kind o) };
+        knows = record { first = f; told = is; lent = record { row = refl; kind = refl; caller = refl; brake = refl; steps = refl }; knows = let t = knows_owed f c.now (on_row c.now q) kind o in (owes_first c b s in_scan q o kind, t.0, t.1) };
         script = fresh;
-        state = λ more _ k. rw (← many) (knows_of front f is in_scan c.ghost_name b.ghost_name s.ghost_name GoesOn c.now b.now s.now more k).1;
+        state = λ more _ k. let t = knows_of front f is in_scan c.ghost_name b.ghost_name s.ghost_name GoesOn c.now b.now s.now more k in rw (← many) (t.1, t.2);
         lacks = λ more _ _ a w g h. subst (λ (x : Front W B). (meaning (key_of r).work).walk (overlaid more x.batch) x.words ≡ Needs a) (sym (same_front front f is g h)) (subst (λ (x : List ℕ). (meaning (key_of r).work).walk (overlaid more f.batch) x ≡ Needs a) same w);
       } in
       subst (λ (x : W). MayRunFrom (meaning x) (lawful x) (size x) op (told meaning lawful denials left answers asks r front in_scan c.ghost_name b.ghost_name s.ghost_name course c.now b.now s.now)) (sym of_row)

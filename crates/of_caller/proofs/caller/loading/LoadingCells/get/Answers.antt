@@ -56,8 +56,8 @@ returns-in-Ok-clause-runs g c =
     tells g.W.Work.meaning g.W.Work.lawful g.B.Brake.denials g.B.Brake.left g.B.Brake.answers g.B.Brake.asks l.row.now g.O.LoadArgs.front f k.told (read_cell c.args.addr) l.in_scan l.caller.ghost_name l.brake.ghost_name l.steps.ghost_name l.course l.course l.caller.now l.caller.now l.brake.now l.brake.now l.steps.now l.steps.now _ k.lent
     (read_there g.W.Work.meaning g.W.Work.lawful g.B.Brake.denials g.B.Brake.left g.B.Brake.answers g.B.Brake.asks l.row.now f l.course c0 l.brake.now l.steps.now c.args.addr (Ok c.in-Ok.value) k.knows (sym c.get.ensures ∙ c.in_default.is) seen)
 
-pub lack-requires : goal.lack-requires
-lack-requires g c =
+pub lack-place-requires : goal.lack-place-requires
+lack-place-requires g c =
     let l = c.args.self.now in
     let k = c.requires.knows in
     let f = k.first in
@@ -142,8 +142,8 @@ returns-in-Ok-None g c =
           (subst (λ (x : Course). RunsOn (read_cell c.args.addr) (loading g.W.Work.meaning g.W.Work.lawful g.B.Brake.denials g.B.Brake.left g.B.Brake.answers g.B.Brake.asks l.row.now f x c0 l.brake.now l.steps.now) (loading g.W.Work.meaning g.W.Work.lawful g.B.Brake.denials g.B.Brake.left g.B.Brake.answers g.B.Brake.asks l.row.now f HasEnded now.self now.brake now.steps) (Err (record { addr = c.args.addr }))) (sym c.in-GoesOn.is) (stops g.W.Work.meaning g.W.Work.lawful g.B.Brake.denials g.B.Brake.left g.B.Brake.answers g.B.Brake.asks l.row.now f HasEnded c0 now.self l.brake.now now.brake l.steps.now now.steps c.args.addr owes own none seen t.writes led));
     }
 
-pub returns-in-Err-2 : goal.returns-in-Err-2
-returns-in-Err-2 g c =
+pub returns-in-Err-turn_owing : goal.returns-in-Err-turn_owing
+returns-in-Err-turn_owing g c =
     let l = c.args.self.now in
     let k = c.requires.knows in
     let f = k.first in
@@ -154,7 +154,7 @@ returns-in-Err-2 g c =
     let is : lacked ≡ true_caller g.W.Work.meaning true c0 = λ i. record { member = c0.member; machine = c.lack-place.ensures.after i; writes = c0.writes } in
     let none = subst (λ (b : Bool). newest_at (run_part b (caller_call c0)) c.args.addr ≡ None) owes.kind c.in-Err.ensures.0 in
     let own = sym c.get.ensures ∙ c.in_default.is in
-    let t = c.in-Err-2.ensures in
+    let t = c.in-Err-turn_owing.ensures in
     let denied = subst (λ (x : Caller g.row.W.Denot). LeadsToDenial g.W.Work.meaning g.W.Work.lawful g.B.Brake.denials g.B.Brake.left g.B.Brake.answers g.B.Brake.asks l.row.now x l.brake.now l.steps.now now.self now.brake now.steps) is t.denied in
     let same : run_part l.in_scan (caller_call now.self) ≡ run_part l.in_scan (caller_call c0) = ap (λ (x : Caller g.row.W.Denot). run_part l.in_scan (caller_call x)) t.same ∙ ap (λ (m : Machine g.row.W.Denot). run_part l.in_scan m.call) c.lack-place.ensures.load in
     let seen = subst (λ (b : Bool). run_part b (caller_call now.self) ≡ run_part b (caller_call c0)) k.lent.kind same in
