@@ -4,7 +4,7 @@ use Rattle.of_cell.specs.declared.shape.TheConstants.{MOST_CALLERS, MOST_DATA_CE
 use Rattle.of_cell.specs.Words.{seq_of}
 use Rattle.of_mem.specs.Meaning.{Meaning}
 use Rattle.of_core.specs.declared.place.Place.{Place}
-use Rattle.of_core.specs.declared.place.Place.TheVariants.{StoreLog, RaiseLog, LoadTarget, RaiseTarget}
+use Rattle.of_core.specs.declared.place.Place.TheVariants.{StoreLog, RaiseLog, LoadTarget, ExchangeTarget, RaiseTarget}
 use Rattle.of_core.specs.Machine.{IsOpen}
 use Rattle.of_core.specs.MachineValue.{Machine, machine_setup}
 use Rattle.of_core.specs.Bound.{bound}
@@ -95,6 +95,15 @@ module _ {W B : Type 0} (meaning : W → Meaning) (lawful : W → List ℕ → T
   entry_stands c c1 c2 o e f k j j2 n b b1 b2 s s1 s2 g same1 same2 count h =
       then_to c c1 c2 o (RaiseTarget e f) (entry_place (caller_call c) (e + 1)) k j j2 n b b1 b2 s s1 s2 g same2
       (entry_raised meaning c1.machine j n e f ∙ ap (λ (m : Machine W). at_place c1.machine (entry_place m.call (e + 1)) (j + 1)) same1) count h
+
+  -- or what the exchange and the steps after it have led to
+  pub entry_brought : (c c1 c2 : Caller W) (e f k j j2 : ℕ) (b b1 b2 : B) (s s1 s2 : ℕ) → c1.machine ≡ c.machine → j ≡ j2
+      → GoesTo meaning lawful denials left answers asks r (lagging_caller c (LoadTarget e) k) b s (lagging_caller c1 (ExchangeTarget e f) (k + 1)) b1 s1
+      → GoesTo meaning lawful denials left answers asks r (lagging_caller c1 (ExchangeTarget e f) (k + 1)) b1 s1 (lagging_caller c2 (entry_place (caller_call c1) (e + 1)) j) b2 s2
+      → GoesTo meaning lawful denials left answers asks r (lagging_caller c (LoadTarget e) k) b s (lagging_caller c2 (entry_place (caller_call c) (e + 1)) j2) b2 s2
+  entry_brought c c1 c2 e f k j j2 b b1 b2 s s1 s2 same count g h =
+      subst (λ (z : Machine W × ℕ). GoesTo meaning lawful denials left answers asks r (lagging_caller c (LoadTarget e) k) b s (lagging_caller c2 (entry_place z.0.call (e + 1)) z.1) b2 s2) (λ i. (same i, count i))
+      (on_to (lagging_caller c (LoadTarget e) k) (lagging_caller c1 (ExchangeTarget e f) (k + 1)) (lagging_caller c2 (entry_place (caller_call c1) (e + 1)) j) b b1 b2 s s1 s2 g h)
 
   -- ---- a loop in which the machine lags
   -- it begins where the machine is
