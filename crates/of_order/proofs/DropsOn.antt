@@ -18,7 +18,7 @@ use Rattle.of_order.specs.Dropping.{IsDropping, IsDropped}
 use Rattle.of_order.specs.Means.{dropped_count, after_drop}
 use Rattle.of_order.proofs.Drops.{drop_acts}
 use Rattle.of_order.proofs.DropWalks.{Stays, stays_first, stays_below, stays_on, goes_out, stays_behind, cell_fits, drop_bucket, no_bucket, begins, next_bucket, all_dropped}
-use Rattle.of_order.proofs.Rests.{turn, none_left, whole}
+use Rattle.of_order.proofs.Rests.{turn, whole}
 use Rattle.of_order.proofs.Walking.{is_suc}
 
 -- Where the walk of a bucket begins.
@@ -171,11 +171,6 @@ module _ (plot : Plot) (low i gone0 : ℕ) (small : i < bucket_count plot.blocks
                   pub stays_gone : Always (λ p. Stays plot p low i cell link (gone + 1)) d4
                   stays_gone = always_second (give plot b) S3 (λ p. Stays plot p low i cell link (gone + 1)) d3 d4 u (λ q v s r.
                       stays_behind plot s.0 low i cell f gone small s.1.0.0 some key (first_at o b) (link_at o b) link refl s.1.0.1 less refl s.1.1 q v u s.2 s.3 r) stays3 gave
-
--- the walk that has passed as many blocks as there are
-pub walk_over : (plot : Plot) (low i gone0 : ℕ) (c d : Running) (step cell f gone : ℕ) → plot.blocks ≤ step → ComesTo (drop_in plot i low gone0) (drop_walk (base plot) low (plot.blocks - step) cell f gone) c d → RunsOn (drop_in plot i low gone0) c d (Ok gone)
-walk_over plot low i gone0 c d step cell f gone all came =
-    comes_out (drop_in plot i low gone0) (Done gone) c d d (Ok gone) (comes_as (drop_in plot i low gone0) (drop_walk (base plot) low (plot.blocks - step) cell f gone) (Done gone) c d (ap (λ (j : ℕ). drop_walk (base plot) low j cell f gone) (none_left plot.blocks step all)) came) (runs_done d gone came.goes.knows)
 
 -- One bucket after the other.
 module _ (plot : Plot) (low : ℕ) (c : Running) (h : MayRun (drop_below plot low) (HasStore plot) c) where
