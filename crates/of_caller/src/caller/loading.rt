@@ -40,24 +40,23 @@ impl<W, B> LoadArgs<W, B> for Brand {
 }
 
 /// The cells of a run: a cell that is not known yet is loaded by a step of the call. What the run
-/// writes lies in the caller's write-set until the run has ended.
-pub(crate) struct Loading<'c, 'r, 'b, 's, W: Work, L: Ledger, B: Brake, O> {
+/// writes lies in the caller's write-set until the run has ended. `IN_SCAN` says whether the run is
+/// that of a scanned script, or else of a try.
+pub(crate) struct Loading<'c, 'r, 'b, 's, W: Work, L: Ledger, B: Brake, O, const IN_SCAN: bool> {
     caller: &'c mut Caller<W>,
     row: &'r Row<W>,
     brake: &'b mut B,
     steps: &'s mut Steps<L>,
-    /// Whether the run is that of a scanned script, or else of a try.
-    in_scan: bool,
     course: Course,
     told: PhantomData<O>,
 }
 
-impl<'c, 'r, 'b, 's, W: Work, L: Ledger, B: Brake, O: LoadArgs<W, B>> Cells
-    for Loading<'c, 'r, 'b, 's, W, L, B, O> {
+impl<'c, 'r, 'b, 's, W: Work, L: Ledger, B: Brake, O: LoadArgs<W, B>, const IN_SCAN: bool> Cells
+    for Loading<'c, 'r, 'b, 's, W, L, B, O, IN_SCAN> {
     ghost use Rattle.of_caller.specs.Loading.{told};
 
     ghost run = { λ l. told W.meaning W.lawful B.denials B.left B.answers B.asks l.row.now O.front
-        l.in_scan l.caller.ghost_name l.brake.ghost_name l.steps.ghost_name l.course
+        IN_SCAN l.caller.ghost_name l.brake.ghost_name l.steps.ghost_name l.course
         l.caller.now l.brake.now l.steps.now };
 
     #[inline(always)]
@@ -66,13 +65,13 @@ impl<'c, 'r, 'b, 's, W: Work, L: Ledger, B: Brake, O: LoadArgs<W, B>> Cells
             return Ok(value);
         }
         let Course::GoesOn = self.course else {
-            return self.caller.machine.newest_for(self.in_scan, addr);
+            return self.caller.machine.newest_for(IN_SCAN, addr);
         };
         match self.caller.machine.newest(addr) {
             Ok(value) => return Ok(value),
             Err(_) => {}
         }
-        let place = self.caller.machine.lack(self.in_scan, addr);
+        let place = self.caller.machine.lack(IN_SCAN, addr);
         match self
             .caller
             .turn_owing(place, self.row, self.brake, self.steps)
@@ -133,16 +132,20 @@ impl<W: Work> Caller<W> {
     {
         let in_scan = self.machine.owes_script();
         let (words, count) = self.machine.owed_words(in_scan);
-        self.run_on_cells(in_scan, &words[..count], row, brake, steps)
+        let words = &words[..count];
+        if in_scan {
+            self.run_on_cells::<L, B, true>(words, row, brake, steps)
+        } else {
+            self.run_on_cells::<L, B, false>(words, row, brake, steps)
+        }
     }
 
-    /// Makes the run that the machine owes, of these words. `in_scan` says whether it is the run of
+    /// Makes the run that the machine owes, of these words. `IN_SCAN` says whether it is the run of
     /// a scanned script. The words are not the machine's own, which are out of reach while the
     /// cells hold the caller.
     #[inline(always)]
-    pub(super) fn run_on_cells<L: Ledger, B: Brake>(
+    pub(super) fn run_on_cells<L: Ledger, B: Brake, const IN_SCAN: bool>(
         &mut self,
-        in_scan: bool,
         words: &[u64],
         row: &Row<W>,
         brake: &mut B,
@@ -150,8 +153,8 @@ impl<W: Work> Caller<W> {
     ) -> Result<(), Stopped>
         requires caller { IsCaller W.meaning row.now (true_caller W.meaning true self.old) }
         requires owes { OwesRun W.meaning W.lawful self.old.machine }
-        requires kind { is_scanning (caller_call self.old).place ≡ in_scan }
-        requires words { words.now ≡ owed_words in_scan (caller_call self.old) }
+        requires kind { is_scanning (caller_call self.old).place ≡ IN_SCAN }
+        requires words { words.now ≡ owed_words IN_SCAN (caller_call self.old) }
         requires few { length words.now ≤ MOST_INSTRS }
         ensures caller { IsCaller W.meaning row.now self.new }
         ensures goes { OnOk result (LeadsOn W.meaning W.lawful B.denials B.left B.answers B.asks
@@ -164,14 +167,13 @@ impl<W: Work> Caller<W> {
             ≤ steps_left W.meaning (true_caller W.meaning true self.old)) }
     {
         self.writes.clear();
-        self.run_afresh(in_scan, words, row, brake, steps)
+        self.run_afresh::<L, B, IN_SCAN>(words, row, brake, steps)
     }
 
     /// Does what `run_on_cells` does, with nothing written yet.
     #[inline(always)]
-    fn run_afresh<L: Ledger, B: Brake>(
+    fn run_afresh<L: Ledger, B: Brake, const IN_SCAN: bool>(
         &mut self,
-        in_scan: bool,
         words: &[u64],
         row: &Row<W>,
         brake: &mut B,
@@ -179,8 +181,8 @@ impl<W: Work> Caller<W> {
     ) -> Result<(), Stopped>
         requires caller { IsCaller W.meaning row.now (true_caller W.meaning true self.old) }
         requires owes { OwesRun W.meaning W.lawful self.old.machine }
-        requires kind { is_scanning (caller_call self.old).place ≡ in_scan }
-        requires words { words.now ≡ owed_words in_scan (caller_call self.old) }
+        requires kind { is_scanning (caller_call self.old).place ≡ IN_SCAN }
+        requires words { words.now ≡ owed_words IN_SCAN (caller_call self.old) }
         requires few { length words.now ≤ MOST_INSTRS }
         requires fresh { self.old.writes.entries ≡ [] }
         ensures caller { IsCaller W.meaning row.now self.new }
@@ -197,22 +199,20 @@ impl<W: Work> Caller<W> {
             shape: 0,
             values: [0; MOST_INSTRS],
         };
-        let mut cells: Loading<W, L, B, Brand> = Loading {
+        let mut cells: Loading<W, L, B, Brand, IN_SCAN> = Loading {
             caller: self,
             row,
             brake,
             steps,
-            in_scan,
             course: Course::GoesOn,
             told: PhantomData,
         };
-        let ran = Self::run::<L, B, Brand>(&mut cells, words, &mut reply);
+        let ran = Self::run::<L, B, Brand, IN_SCAN>(&mut cells, words, &mut reply);
         let Loading {
             caller: _,
             row: _,
             brake: _,
             steps: _,
-            in_scan: _,
             course,
             told: _,
         } = cells;
@@ -221,26 +221,26 @@ impl<W: Work> Caller<W> {
             Course::HasEnded => return Ok(()),
             Course::WasDenied => return Err(Stopped),
         }
-        self.end_run(in_scan, ran, &reply);
+        self.end_run(IN_SCAN, ran, &reply);
         Ok(())
     }
 
     /// Runs the words on cells that the call loads. They hold the same caller, brake and count of
     /// steps afterwards. Ok says whether the writes are to be undone.
     #[inline(always)]
-    fn run<L: Ledger, B: Brake, O: LoadArgs<W, B>>(
-        cells: &mut Loading<W, L, B, O>,
+    fn run<L: Ledger, B: Brake, O: LoadArgs<W, B>, const IN_SCAN: bool>(
+        cells: &mut Loading<W, L, B, O, IN_SCAN>,
         words: &[u64],
         reply: &mut RawReply,
     ) -> Option<Result<bool, Need>>
-        requires told { O.front ≡ Some (front_now W.meaning cells.old.row.now cells.old.in_scan
+        requires told { O.front ≡ Some (front_now W.meaning cells.old.row.now IN_SCAN
             cells.old.caller cells.old.brake cells.old.steps) }
         requires goes_on { cells.old.course ≡ GoesOn }
         requires caller { IsCaller W.meaning cells.old.row.now
             (true_caller W.meaning true cells.old.caller.now) }
         requires owes { OwesRun W.meaning W.lawful cells.old.caller.now.machine }
-        requires kind { is_scanning (caller_call cells.old.caller.now).place ≡ cells.old.in_scan }
-        requires words { words.now ≡ owed_words cells.old.in_scan
+        requires kind { is_scanning (caller_call cells.old.caller.now).place ≡ IN_SCAN }
+        requires words { words.now ≡ owed_words IN_SCAN
             (caller_call cells.old.caller.now) }
         requires few { length words.now ≤ MOST_INSTRS }
         requires fresh { cells.old.caller.now.writes.entries ≡ [] }
@@ -248,7 +248,7 @@ impl<W: Work> Caller<W> {
         ensures same_brake { cells.new.brake.ghost_name ≡ cells.old.brake.ghost_name }
         ensures same_steps { cells.new.steps.ghost_name ≡ cells.old.steps.ghost_name }
         ensures stands { Stands W.meaning W.lawful B.denials B.left B.answers B.asks
-            cells.old.row.now (front_now W.meaning cells.old.row.now cells.old.in_scan
+            cells.old.row.now (front_now W.meaning cells.old.row.now IN_SCAN
             cells.old.caller cells.old.brake cells.old.steps) cells.new.course
             cells.new.caller.now cells.new.brake.now cells.new.steps.now }
         ensures ran { cells.new.course ≡ GoesOn → IfSome result (λ r. RunEndsAs W.meaning
@@ -257,8 +257,7 @@ impl<W: Work> Caller<W> {
         // the row has as many cells as its work
         let _ = cells.row.shape();
         let work = cells.row.work();
-        let in_scan = cells.in_scan;
-        if in_scan {
+        if IN_SCAN {
             return work.run_from(cells, words, reply);
         }
         match work.read_from(cells, words, reply) {
@@ -271,6 +270,7 @@ impl<W: Work> Caller<W> {
 
     /// Ends the run that the machine owes, as `ran` says that it ended. If no run was made on cells,
     /// the machine makes it.
+    #[inline(always)]
     fn end_run(&mut self, in_scan: bool, ran: Option<Result<bool, Need>>, reply: &RawReply)
         requires owes { OwesRun W.meaning W.lawful self.old.machine }
         requires kind { is_scanning (caller_call self.old).place ≡ in_scan }
@@ -297,6 +297,7 @@ impl<W: Work> Caller<W> {
     }
 
     /// Ends the run that the machine owes, which gave this reply and the writes of the write-set.
+    #[inline(always)]
     fn finish_run(&mut self, in_scan: bool, reply: &RawReply)
         requires owes { OwesRun W.meaning W.lawful self.old.machine }
         requires kind { is_scanning (caller_call self.old).place ≡ in_scan }

@@ -417,7 +417,7 @@ impl<W: Work> Caller<W> {
             (steps_left W.meaning self.new < steps_left W.meaning self.old) }
     {
         match self.turn_owing(place, row, brake, steps)? {
-            Some(_) => self.run_on_cells(false, op, row, brake, steps),
+            Some(_) => self.run_on_cells::<L, B, false>(op, row, brake, steps),
             None => Ok(()),
         }
     }
