@@ -9,7 +9,7 @@ use Rattle.of_script.specs.declared.instr.Reply.{Reply}
 use Rattle.of_script.specs.declared.instr.TheConstants.{MOST_INSTRS}
 use Rattle.of_store.specs.Store.{Store}
 use Rattle.of_eval.specs.Shapes.{IsHeldBy}
-use Rattle.of_eval.specs.Words.{owed_words, words_outcome}
+use Rattle.of_eval.specs.Words.{run_words, words_outcome}
 use Rattle.of_eval.specs.ScriptRuns.{words_answer}
 use Rattle.of_eval.specs.SoundScripts.{scripts_sound}
 use Rattle.of_eval.proofs.Meanings.{means_words}
@@ -50,7 +50,7 @@ module _ (p : Plan) (plan : IsPlan p) where
   holds xs op raw h some few same =
       let s : Store = h.lawful.0 in
       let does = means_words (work_of p plan) xs op s h.size few h.lawful.1 in
-      let response = (owed_words s op).1 in
+      let response = (run_words s op).1 in
       let fits : FitsIn (length op) response = settled_fits s op (words_outcome s op) (words_answer op s h.lawful.1.state) in
       let has = has_reply p raw (length op) response some few fits (subst (SameWhereMarked (plan_setup p) raw) does.reply same) in
       (has.0, has.1)
