@@ -1,7 +1,7 @@
 //! Runs on cells that a call loads. An operation runs once, and each cell that the run asks for and
 //! that is not known yet is loaded by a step of the call.
 
-ghost use Rattle.std.specs.Prelude.{◌≡◌, ◌≤◌, [], Option, Some, None, true, length};
+ghost use Rattle.std.specs.Prelude.{◌≡◌, ◌≤◌, [], Option, Some, None, Bool, true, false, length};
 ghost use Rattle.std.specs.Prelude.{OnOk, OnErr, IfSome};
 ghost use Rattle.of_mem.specs.declared.work.TheConstants.{MOST_INSTRS};
 ghost use Rattle.of_mem.specs.Meaning.{Gives};
@@ -28,6 +28,40 @@ pub(crate) enum Course {
     WasDenied,
 }
 
+/// Which run a machine owes. It is a type, so that the compiler knows the place of each load.
+pub(crate) trait RunKind {
+    /// Whether the run is that of a scanned script, or else of a try.
+    ghost scans: { Bool };
+
+    /// Tells `scans`.
+    fn in_scan() -> bool
+        ensures { result ≡ scans };
+}
+
+/// The run of a scanned script.
+pub(crate) struct OfScan;
+
+/// The run of a try.
+pub(crate) struct OfTry;
+
+impl RunKind for OfScan {
+    ghost scans = { true };
+
+    #[inline(always)]
+    fn in_scan() -> bool {
+        true
+    }
+}
+
+impl RunKind for OfTry {
+    ghost scans = { false };
+
+    #[inline(always)]
+    fn in_scan() -> bool {
+        false
+    }
+}
+
 /// The front of a run; given for the proof alone.
 pub(crate) trait LoadArgs<W, B> {
     ghost use Rattle.of_caller.specs.Fronts.{Front};
@@ -40,38 +74,39 @@ impl<W, B> LoadArgs<W, B> for Brand {
 }
 
 /// The cells of a run: a cell that is not known yet is loaded by a step of the call. What the run
-/// writes lies in the caller's write-set until the run has ended. `IN_SCAN` says whether the run is
-/// that of a scanned script, or else of a try.
-pub(crate) struct Loading<'c, 'r, 'b, 's, W: Work, L: Ledger, B: Brake, O, const IN_SCAN: bool> {
+/// writes lies in the caller's write-set until the run has ended.
+pub(crate) struct Loading<'c, 'r, 'b, 's, W: Work, L: Ledger, B: Brake, K, O> {
     caller: &'c mut Caller<W>,
     row: &'r Row<W>,
     brake: &'b mut B,
     steps: &'s mut Steps<L>,
     course: Course,
+    kind: PhantomData<K>,
     told: PhantomData<O>,
 }
 
-impl<'c, 'r, 'b, 's, W: Work, L: Ledger, B: Brake, O: LoadArgs<W, B>, const IN_SCAN: bool> Cells
-    for Loading<'c, 'r, 'b, 's, W, L, B, O, IN_SCAN> {
+impl<'c, 'r, 'b, 's, W: Work, L: Ledger, B: Brake, K: RunKind, O: LoadArgs<W, B>> Cells
+    for Loading<'c, 'r, 'b, 's, W, L, B, K, O> {
     ghost use Rattle.of_caller.specs.Loading.{told};
 
     ghost run = { λ l. told W.meaning W.lawful B.denials B.left B.answers B.asks l.row.now O.front
-        IN_SCAN l.caller.ghost_name l.brake.ghost_name l.steps.ghost_name l.course
+        K.scans l.caller.ghost_name l.brake.ghost_name l.steps.ghost_name l.course
         l.caller.now l.brake.now l.steps.now };
 
     #[inline(always)]
     fn get(&mut self, addr: u32) -> Result<u32, Need> {
-        if let Some(value) = self.caller.writes.get(addr) {
+        let in_scan = K::in_scan();
+        if let Some(value) = self.caller.written(addr) {
             return Ok(value);
         }
         let Course::GoesOn = self.course else {
-            return self.caller.machine.newest_for(IN_SCAN, addr);
+            return self.caller.machine.newest_for(in_scan, addr);
         };
         match self.caller.machine.newest(addr) {
             Ok(value) => return Ok(value),
             Err(_) => {}
         }
-        let place = self.caller.machine.lack(IN_SCAN, addr);
+        let place = self.caller.machine.lack(in_scan, addr);
         match self
             .caller
             .turn_owing(place, self.row, self.brake, self.steps)
@@ -103,11 +138,24 @@ impl<'c, 'r, 'b, 's, W: Work, L: Ledger, B: Brake, O: LoadArgs<W, B>, const IN_S
 }
 
 impl<W: Work> Caller<W> {
+    ghost use Rattle.of_mem.specs.CellMap.{value_for};
     ghost use Rattle.of_caller.specs.Callers.{IsCaller, caller_call};
     ghost use Rattle.of_caller.specs.Going.{LeadsOn, LeadsToDenial, true_caller, steps_left};
     ghost use Rattle.of_caller.specs.Fronts.{front_now};
     ghost use Rattle.of_caller.specs.Loading.{Stands, RunEndsAs};
     ghost use Rattle.of_caller.specs.declared.caller.loading.Course.TheVariants.{GoesOn};
+
+    /// What the run on its way has written at an address. None if it has written nothing there.
+    // most runs read before they write, and many write nothing
+    #[inline(always)]
+    fn written(&self, addr: u32) -> Option<u32>
+        ensures { result ≡ value_for self.now.writes.entries addr }
+    {
+        if self.writes.is_empty() {
+            return None;
+        }
+        self.writes.get(addr)
+    }
 
     /// Makes the run that the machine owes.
     // out of line: a run of a try whose operation is at hand has its own code
@@ -134,17 +182,16 @@ impl<W: Work> Caller<W> {
         let (words, count) = self.machine.owed_words(in_scan);
         let words = &words[..count];
         if in_scan {
-            self.run_on_cells::<L, B, true>(words, row, brake, steps)
+            self.run_on_cells::<L, B, OfScan>(words, row, brake, steps)
         } else {
-            self.run_on_cells::<L, B, false>(words, row, brake, steps)
+            self.run_on_cells::<L, B, OfTry>(words, row, brake, steps)
         }
     }
 
-    /// Makes the run that the machine owes, of these words. `IN_SCAN` says whether it is the run of
-    /// a scanned script. The words are not the machine's own, which are out of reach while the
+    /// Makes the run that the machine owes, of these words. The words are not the machine's own, which are out of reach while the
     /// cells hold the caller.
     #[inline(always)]
-    pub(super) fn run_on_cells<L: Ledger, B: Brake, const IN_SCAN: bool>(
+    pub(super) fn run_on_cells<L: Ledger, B: Brake, K: RunKind>(
         &mut self,
         words: &[u64],
         row: &Row<W>,
@@ -153,8 +200,8 @@ impl<W: Work> Caller<W> {
     ) -> Result<(), Stopped>
         requires caller { IsCaller W.meaning row.now (true_caller W.meaning true self.old) }
         requires owes { OwesRun W.meaning W.lawful self.old.machine }
-        requires kind { is_scanning (caller_call self.old).place ≡ IN_SCAN }
-        requires words { words.now ≡ owed_words IN_SCAN (caller_call self.old) }
+        requires kind { is_scanning (caller_call self.old).place ≡ K.scans }
+        requires words { words.now ≡ owed_words K.scans (caller_call self.old) }
         requires few { length words.now ≤ MOST_INSTRS }
         ensures caller { IsCaller W.meaning row.now self.new }
         ensures goes { OnOk result (LeadsOn W.meaning W.lawful B.denials B.left B.answers B.asks
@@ -167,12 +214,12 @@ impl<W: Work> Caller<W> {
             ≤ steps_left W.meaning (true_caller W.meaning true self.old)) }
     {
         self.writes.clear();
-        self.run_afresh::<L, B, IN_SCAN>(words, row, brake, steps)
+        self.run_afresh::<L, B, K>(words, row, brake, steps)
     }
 
     /// Does what `run_on_cells` does, with nothing written yet.
     #[inline(always)]
-    fn run_afresh<L: Ledger, B: Brake, const IN_SCAN: bool>(
+    fn run_afresh<L: Ledger, B: Brake, K: RunKind>(
         &mut self,
         words: &[u64],
         row: &Row<W>,
@@ -181,8 +228,8 @@ impl<W: Work> Caller<W> {
     ) -> Result<(), Stopped>
         requires caller { IsCaller W.meaning row.now (true_caller W.meaning true self.old) }
         requires owes { OwesRun W.meaning W.lawful self.old.machine }
-        requires kind { is_scanning (caller_call self.old).place ≡ IN_SCAN }
-        requires words { words.now ≡ owed_words IN_SCAN (caller_call self.old) }
+        requires kind { is_scanning (caller_call self.old).place ≡ K.scans }
+        requires words { words.now ≡ owed_words K.scans (caller_call self.old) }
         requires few { length words.now ≤ MOST_INSTRS }
         requires fresh { self.old.writes.entries ≡ [] }
         ensures caller { IsCaller W.meaning row.now self.new }
@@ -199,21 +246,23 @@ impl<W: Work> Caller<W> {
             shape: 0,
             values: [0; MOST_INSTRS],
         };
-        let mut cells: Loading<W, L, B, Brand, IN_SCAN> = Loading {
+        let mut cells: Loading<W, L, B, K, Brand> = Loading {
             caller: self,
             row,
             brake,
             steps,
             course: Course::GoesOn,
+            kind: PhantomData,
             told: PhantomData,
         };
-        let ran = Self::run::<L, B, Brand, IN_SCAN>(&mut cells, words, &mut reply);
+        let ran = Self::run::<L, B, K, Brand>(&mut cells, words, &mut reply);
         let Loading {
             caller: _,
             row: _,
             brake: _,
             steps: _,
             course,
+            kind: _,
             told: _,
         } = cells;
         match course {
@@ -221,26 +270,26 @@ impl<W: Work> Caller<W> {
             Course::HasEnded => return Ok(()),
             Course::WasDenied => return Err(Stopped),
         }
-        self.end_run(IN_SCAN, ran, &reply);
+        self.end_run(K::in_scan(), ran, &reply);
         Ok(())
     }
 
     /// Runs the words on cells that the call loads. They hold the same caller, brake and count of
     /// steps afterwards. Ok says whether the writes are to be undone.
     #[inline(always)]
-    fn run<L: Ledger, B: Brake, O: LoadArgs<W, B>, const IN_SCAN: bool>(
-        cells: &mut Loading<W, L, B, O, IN_SCAN>,
+    fn run<L: Ledger, B: Brake, K: RunKind, O: LoadArgs<W, B>>(
+        cells: &mut Loading<W, L, B, K, O>,
         words: &[u64],
         reply: &mut RawReply,
     ) -> Option<Result<bool, Need>>
-        requires told { O.front ≡ Some (front_now W.meaning cells.old.row.now IN_SCAN
+        requires told { O.front ≡ Some (front_now W.meaning cells.old.row.now K.scans
             cells.old.caller cells.old.brake cells.old.steps) }
         requires goes_on { cells.old.course ≡ GoesOn }
         requires caller { IsCaller W.meaning cells.old.row.now
             (true_caller W.meaning true cells.old.caller.now) }
         requires owes { OwesRun W.meaning W.lawful cells.old.caller.now.machine }
-        requires kind { is_scanning (caller_call cells.old.caller.now).place ≡ IN_SCAN }
-        requires words { words.now ≡ owed_words IN_SCAN
+        requires kind { is_scanning (caller_call cells.old.caller.now).place ≡ K.scans }
+        requires words { words.now ≡ owed_words K.scans
             (caller_call cells.old.caller.now) }
         requires few { length words.now ≤ MOST_INSTRS }
         requires fresh { cells.old.caller.now.writes.entries ≡ [] }
@@ -248,7 +297,7 @@ impl<W: Work> Caller<W> {
         ensures same_brake { cells.new.brake.ghost_name ≡ cells.old.brake.ghost_name }
         ensures same_steps { cells.new.steps.ghost_name ≡ cells.old.steps.ghost_name }
         ensures stands { Stands W.meaning W.lawful B.denials B.left B.answers B.asks
-            cells.old.row.now (front_now W.meaning cells.old.row.now IN_SCAN
+            cells.old.row.now (front_now W.meaning cells.old.row.now K.scans
             cells.old.caller cells.old.brake cells.old.steps) cells.new.course
             cells.new.caller.now cells.new.brake.now cells.new.steps.now }
         ensures ran { cells.new.course ≡ GoesOn → IfSome result (λ r. RunEndsAs W.meaning
@@ -257,7 +306,8 @@ impl<W: Work> Caller<W> {
         // the row has as many cells as its work
         let _ = cells.row.shape();
         let work = cells.row.work();
-        if IN_SCAN {
+        let in_scan = K::in_scan();
+        if in_scan {
             return work.run_from(cells, words, reply);
         }
         match work.read_from(cells, words, reply) {

@@ -10,6 +10,7 @@ ghost use Rattle.of_core.specs.Fit.{is_scanning};
 ghost use Rattle.of_core.specs.OwedRun.{OwesRun, with_cell_loaded, load_for, run_part};
 
 use super::Caller;
+use super::loading::OfTry;
 use of_brake::{Brake, Steps};
 use of_core::Place;
 use of_mem::Work;
@@ -417,7 +418,7 @@ impl<W: Work> Caller<W> {
             (steps_left W.meaning self.new < steps_left W.meaning self.old) }
     {
         match self.turn_owing(place, row, brake, steps)? {
-            Some(_) => self.run_on_cells::<L, B, false>(op, row, brake, steps),
+            Some(_) => self.run_on_cells::<L, B, OfTry>(op, row, brake, steps),
             None => Ok(()),
         }
     }
