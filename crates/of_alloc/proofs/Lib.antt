@@ -4,3 +4,4 @@ pub mod Heaped
 pub mod Stored
 pub mod Staying
 pub mod Leaving
+pub mod TakingsOn

@@ -31,10 +31,10 @@ module _ {W B : Type 0} (meaning : W → Meaning) (lawful : W → List ℕ → T
       omega (arith, within, callers, cells, few_callers, few_cells)
 
   -- one step of the true caller
-  pub went : (c c1 : Caller W) (b b1 : B) (s s1 : ℕ) → IsCaller meaning r c → IsOpen (caller_call c).place → IsRowMember r (member_of c1) → IsMemberOf meaning (member_of c1) c1.machine → StepsMember meaning lawful r c.machine c.member c1.machine c1.member → s1 ≡ s + 1
+  pub went : (c c1 : Caller W) (b b1 : B) (s s1 : ℕ) → IsCaller meaning r c → IsOpen (caller_call c).place → IsRowMember r (member_of c1) → IsMemberOf meaning (member_of c1) c1.machine → c1.writes.room ≡ c.writes.room → StepsMember meaning lawful r c.machine c.member c1.machine c1.member → s1 ≡ s + 1
       → denials b ≤ denials b1 → ChargesAsk (left b) (left b1) true → Asked (asks b) (asks b1) → answers b1 ≡ answers b → GoesTo meaning lawful denials left answers asks r c b s c1 b1 s1
-  went c c1 b b1 s s1 q o row member step tick more charge ask same = record {
-    caller = record { row = row; machine = runs_on r c.machine c1.machine _ q.machine step.2; member = member; within = within_after meaning lawful r c q o c1 step };
+  went c c1 b b1 s s1 q o row member room step tick more charge ask same = record {
+    caller = record { row = row; machine = runs_on r c.machine c1.machine _ q.machine step.2; member = member; room = room ∙ q.room; within = within_after meaning lawful r c q o c1 step };
     goes = one_step meaning lawful denials left answers asks r c c1 b b1 s s1 q o step tick more charge ask same;
     falls = falls meaning lawful r c q o c1 step idle_or_open;
   }

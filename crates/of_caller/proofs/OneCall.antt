@@ -183,14 +183,14 @@ module _ (p : Plan) (r : Row Scripts) (row : IsPlanRow p r) where
     goes_of (Spent k) is_one closes now more = absurd is_one
     goes_of (Lost k) is_one closes now more = absurd is_one
 
-    abbrev EndsAs : Result Outcome CallErr → Type 0
-    EndsAs z = TellsResult S L B d0 (sight_of caller) told.before told.steps (caller_call b) (sight_of b) told.kept z
+    abbrev RunEndsAs : Result Outcome CallErr → Type 0
+    RunEndsAs z = TellsResult S L B d0 (sight_of caller) told.before told.steps (caller_call b) (sight_of b) told.kept z
 
     pub stopped_of : (asked : ℕ) → result ≡ Err (Stopped asked) → CallerHasEnded p n c r b answers (Halted asked)
-    stopped_of asked as_is = let ends : EndsAs (Err (Stopped asked)) = subst EndsAs as_is told.result in ends_stopped asked ends.0 ends.1
+    stopped_of asked as_is = let ends : RunEndsAs (Err (Stopped asked)) = subst RunEndsAs as_is told.result in ends_stopped asked ends.0 ends.1
 
     pub spent_of : (k : ℕ) → result ≡ Err (Over k) → CallerHasEnded p n c r b answers (RanOut k)
-    spent_of k as_is = let ends : EndsAs (Err (Over k)) = subst EndsAs as_is told.result in ends_spent (Spent k) ends k refl
+    spent_of k as_is = let ends : RunEndsAs (Err (Over k)) = subst RunEndsAs as_is told.result in ends_spent (Spent k) ends k refl
 
 -- all scripts are answered
 pub ends_done : (p : Plan) (r : Row Scripts) (n c : ℕ) (caller : Caller Scripts) (answers : List Answer) (i : ℕ) → CallerHasAnswered p n c r caller answers i → n ≤ length (scripts_of p c) → i ≡ length (scripts_of p c) - n → CallerHasEnded p n c r caller answers Done

@@ -8,7 +8,7 @@ use Rattle.of_core.specs.Turn.{IsIdle}
 use Rattle.of_row.specs.Views.{View}
 use Rattle.of_row.specs.declared.member.Member.{Member}
 use Rattle.of_row.specs.declared.row.Row.{Row}
-use Rattle.of_row.specs.Rows.{IsRowMember, RunsOnRow, IsMemberOf, HasNoCall}
+use Rattle.of_row.specs.Rows.{key_of, IsRowMember, RunsOnRow, IsMemberOf, HasNoCall}
 use Rattle.of_row.specs.Rows.{view_of_member, calls_of_member, caller_kept_by}
 use Rattle.of_caller.specs.declared.caller.Caller.{Caller}
 
@@ -33,11 +33,13 @@ abbrev pub calls_begun_by : {W : Type 0} → Caller W → ℕ
 calls_begun_by c = (caller_call c).made
 
 -- The caller's member and machine are of the row. The machine is the one that the member keeps, or
--- may take that one's place (`StandsForMachine`). An open call has fewer steps than the bound.
+-- may take that one's place (`StandsForMachine`). There is room for the writes of a run. An open
+-- call has fewer steps than the bound.
 pub record IsCaller {W : Type 0} (meaning : W → Meaning) (r : Row W) (c : Caller W) : Type 0 where
   pub row : IsRowMember r (member_of c)
   pub machine : RunsOnRow r c.machine
   pub member : IsMemberOf meaning (member_of c) c.machine
+  pub room : c.writes.room ≡ (key_of r).cells
   pub within : IsOpen (caller_call c).place
       → (caller_call c).steps < bound (machine_setup meaning c.machine)
 

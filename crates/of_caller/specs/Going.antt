@@ -25,7 +25,7 @@ use Rattle.of_caller.specs.Callers.{IsCaller, caller_call, sight_of}
 use Rattle.of_caller.specs.CallsTold.{HasEndedWith, IsStillOpen, TellsStepsMade}
 use Rattle.of_caller.specs.Brakes.{TakesSteps, AskedFor}
 
--- the caller; if its machine owes the run of its try, the caller after this run
+-- the caller; if its machine owes a run, the caller after this run
 abbrev pub true_caller : {W : Type 0} → (W → Meaning) → (owed : Bool) → Caller W → Caller W
 true_caller meaning owed c = record c { machine = after_run_if meaning owed c.machine }
 

@@ -1,8 +1,8 @@
 //! One caller: it makes its calls with a member of a row.
 
 mod lagging;
+mod loading;
 mod phases;
-mod reading;
 
 ghost use Rattle.std.specs.Prelude.{◌≡◌, ◌+◌, ◌<◌, ◌≤◌, ◌↔◌, IfOk, IfErr, IsTrue, length};
 ghost use Rattle.of_mem.specs.declared.work.TheConstants.{MOST_INSTRS};
@@ -14,7 +14,7 @@ ghost use Rattle.of_row.specs.Replacing.{RevivesMember, RefusesMember};
 
 use of_brake::{Brake, Steps};
 use of_core::{Machine, Outcome};
-use of_mem::Work;
+use of_mem::{Work, WriteSet};
 use of_row::laws::{idle_members, machines, members};
 use of_row::{Member, NotRevived, Row};
 use std::alloc::{AllocError, Global};
@@ -38,6 +38,8 @@ pub enum CallErr {
 pub struct Caller<W: Work> {
     pub(crate) member: Member,
     machine: Machine<W>,
+    /// What the run on its way has written. Otherwise it is out of date.
+    writes: WriteSet,
 }
 
 impl<W: Work> Caller<W> {
@@ -66,8 +68,17 @@ impl<W: Work> Caller<W> {
         machines(row.work());
         let number = member.number();
         let made = member.made();
-        match Machine::new(alloc, row.shape(), row.limit(), number, made, row.work()) {
-            Ok(machine) => Ok(Caller { member, machine }),
+        let shape = row.shape();
+        let writes = match WriteSet::new(alloc, shape.cells) {
+            Ok(writes) => writes,
+            Err(error) => return Err((member, error)),
+        };
+        match Machine::new(alloc, shape, row.limit(), number, made, row.work()) {
+            Ok(machine) => Ok(Caller {
+                member,
+                machine,
+                writes,
+            }),
             Err(error) => Err((member, error)),
         }
     }
@@ -93,9 +104,18 @@ impl<W: Work> Caller<W> {
         ensures refused { IfErr result (λ e.
             RefusesMember W.meaning W.lawful row.now member e.0 e.1) }
     {
-        match row.revive(alloc, &mut member, made) {
-            Ok(machine) => Ok(Caller { member, machine }),
-            Err(error) => Err((member, error)),
+        let machine = match row.revive(alloc, &mut member, made) {
+            Ok(machine) => machine,
+            Err(error) => return Err((member, error)),
+        };
+        match WriteSet::new(alloc, row.shape().cells) {
+            Ok(writes) => Ok(Caller {
+                member,
+                machine,
+                writes,
+            }),
+            // the member has got its machine, and may get another one
+            Err(error) => Err((member, NotRevived::OutOfMemory(error))),
         }
     }
 
@@ -218,7 +238,11 @@ impl<W: Work> Caller<W> {
         ensures idle { LeavesIdleMember W.meaning self result }
     {
         idle_members::<W>();
-        let Caller { member, machine: _ } = self;
+        let Caller {
+            member,
+            machine: _,
+            writes: _,
+        } = self;
         member
     }
 }

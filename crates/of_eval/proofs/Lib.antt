@@ -3,7 +3,6 @@ pub mod Unpacked
 pub mod Meanings
 pub mod Walks
 pub mod FirstReads
-mod Ordered
 pub mod ReadsOnly
 pub mod Resumed
 pub mod Overlay
@@ -28,3 +27,5 @@ mod Looks
 pub mod Asking
 pub mod Answering
 pub mod ReadScripts
+pub mod Registers
+pub mod WriteScripts

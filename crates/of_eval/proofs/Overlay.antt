@@ -139,7 +139,7 @@ module _ (w : Scripts) (p : Part) (a : IsPartOfLawful w p) (size : length p.know
         (script_run (store_at w) w.blocks w.few_blocks op (memory_of a.0) a.2.0 a.2.1).inside
 
     -- the work walks as the program runs on it
-    walk_is : (scripts_meaning w).walk (overlaid p.known p.batch) op ≡ walk_of_run is_success (run_program program p)
+    pub walk_is : (scripts_meaning w).walk (overlaid p.known p.batch) op ≡ walk_of_run is_success (run_program program p)
     walk_is = alike_walks is_success (run_program program (fresh_part (overlaid p.known p.batch))) (run_program program p) alike
 
   -- so it is on the work's plot

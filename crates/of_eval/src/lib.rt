@@ -10,6 +10,7 @@ mod scripts;
 mod step;
 mod table;
 mod walk;
+mod write;
 
 pub use lawful_cells::{LawErr, lawful};
 pub use reply::{reply_abort, reply_cells, reply_len, reply_marks, reply_of};

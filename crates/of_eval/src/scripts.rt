@@ -7,6 +7,7 @@ ghost use Rattle.of_mem.specs.declared.plot.TheConstants.{MOST_BLOCKS};
 use crate::read::read_words;
 use crate::step::word_reads;
 use crate::walk::{reach, resume, run_to_reply};
+use crate::write::write_words;
 use of_mem::{Cells, MOST_INSTRS, MaySuspend, Need, Part, Plot, RawReply, SuspendedRun, Work};
 use of_plan::Plan;
 
@@ -105,6 +106,15 @@ impl Work for Scripts {
         out: &mut RawReply,
     ) -> Option<Result<(), Need>> {
         Some(read_words(&self.plot(), cells, op, out))
+    }
+
+    fn run_from<C: Cells>(
+        &self,
+        cells: &mut C,
+        op: &[u64],
+        out: &mut RawReply,
+    ) -> Option<Result<bool, Need>> {
+        Some(write_words(&self.plot(), cells, op, out))
     }
 
     fn reads_only(&self, op: &[u64]) -> bool {

@@ -1,7 +1,7 @@
 //! One instruction over cells.
 
 ghost use Rattle.std.specs.Prelude.{◌≡◌, ℕ, IfSome, nat_lt, true};
-ghost use Rattle.of_mem.specs.Calls.{RunsProgram, HasStore};
+ghost use Rattle.of_mem.specs.Calls.{HasStore};
 ghost use Rattle.of_mem.specs.OnDemand.{MayRun, RunsOn, HasOnlyRead};
 ghost use Rattle.of_mem.specs.Programs.{Done};
 ghost use Rattle.of_script.specs.Language.{IsInstrInRange, reads_only};
@@ -14,7 +14,7 @@ ghost use Rattle.of_eval.specs.Scripts.{instr_reads};
 ghost use Rattle.of_eval.specs.Resuming.{LooksFor};
 
 use of_map::Put;
-use of_mem::{Cells, Need, Part, Plot};
+use of_mem::{Cells, Need, Plot};
 use of_script::{Cause, GREATEST, Instr, from_word};
 use of_store::MOST_ORDERED_BLOCKS;
 
@@ -24,20 +24,19 @@ const FIRST_ON_KEYS: u64 = 80 << 31;
 /// What an instruction answers: a number or none, or the cause for which the script aborts.
 pub(crate) type InstrResult = Result<Option<u32>, Cause>;
 
-/// Runs the instruction for which a word stands; a word that stands for none aborts. An error names
-/// a cell that must be read and is not known.
-pub(crate) fn run_word(plot: &Plot, part: &mut Part, word: u64) -> Result<InstrResult, Need>
-    requires { HasStore plot.now part.old }
-    ensures { RunsProgram (run_word plot.now word) part.old part.new result }
+/// Runs the instruction for which a word stands on cells that it asks for; a word that stands for
+/// none aborts. An error names a cell that must be read and is not known.
+pub(crate) fn run_word<C: Cells>(plot: &Plot, cells: &mut C, word: u64) -> Result<InstrResult, Need>
+    requires { MayRun (run_word plot.now word) (HasStore plot.now) (C.run cells.old) }
+    ensures { RunsOn (run_word plot.now word) (C.run cells.old) (C.run cells.new) result }
 {
     match from_word(word) {
         None => Ok(Err(Cause::BadOp)),
-        Some(instr) => step(plot, part, instr),
+        Some(instr) => step(plot, cells, instr),
     }
 }
 
-/// Runs the instruction for which a word stands on cells that it asks for. The instruction leaves
-/// every store as it is. An error names a cell that must be read and is not known.
+/// The same for an instruction that leaves every store as it is.
 pub(crate) fn read_word<C: Cells>(
     plot: &Plot,
     cells: &mut C,
@@ -81,26 +80,26 @@ pub(crate) fn word_seeks(word: u64) -> Option<u32>
     }
 }
 
-/// Runs one instruction on the cells.
-fn step(plot: &Plot, part: &mut Part, instr: Instr) -> Result<InstrResult, Need>
-    requires stands { HasStore plot.now part.old }
+/// Runs one instruction on cells that it asks for.
+fn step<C: Cells>(plot: &Plot, cells: &mut C, instr: Instr) -> Result<InstrResult, Need>
+    requires may { MayRun (step plot.now instr) (HasStore plot.now) (C.run cells.old) }
     requires range { IsInstrInRange instr }
-    ensures { RunsProgram (step plot.now instr) part.old part.new result }
+    ensures { RunsOn (step plot.now instr) (C.run cells.old) (C.run cells.new) result }
 {
     match instr {
-        Instr::Store { reg, value } => store(plot, part, reg, value),
-        Instr::Add { reg, value } => add(plot, part, reg, value),
-        Instr::Sub { reg, value } => sub(plot, part, reg, value),
-        Instr::Put { key, value } => put(plot, part, key, value),
-        Instr::Del { key } => del(plot, part, key),
-        Instr::Push { queue, value } => push(plot, part, queue, value),
-        Instr::Pop { queue } => pop(plot, part, queue),
-        Instr::DropBelow { key } => drop_below(plot, part, key),
-        _ => read_step(plot, part, instr),
+        Instr::Store { reg, value } => store(plot, cells, reg, value),
+        Instr::Add { reg, value } => add(plot, cells, reg, value),
+        Instr::Sub { reg, value } => sub(plot, cells, reg, value),
+        Instr::Put { key, value } => put(plot, cells, key, value),
+        Instr::Del { key } => del(plot, cells, key),
+        Instr::Push { queue, value } => push(plot, cells, queue, value),
+        Instr::Pop { queue } => pop(plot, cells, queue),
+        Instr::DropBelow { key } => drop_below(plot, cells, key),
+        _ => read_step(plot, cells, instr),
     }
 }
 
-/// Runs one instruction that leaves every store as it is, on cells that it asks for.
+/// Runs one instruction that leaves every store as it is.
 fn read_step<C: Cells>(plot: &Plot, cells: &mut C, instr: Instr) -> Result<InstrResult, Need>
     requires may { MayRun (step plot.now instr) (HasStore plot.now) (C.run cells.old) }
     requires range { IsInstrInRange instr }
@@ -133,45 +132,42 @@ fn load<C: Cells>(plot: &Plot, cells: &mut C, reg: u8) -> Result<InstrResult, Ne
 }
 
 /// Writes a register.
-#[tactic(auto, using(of_mem::proofs::Runs::run_then_gives, of_mem::proofs::Runs::run_then_needs))]
-fn store(plot: &Plot, part: &mut Part, reg: u8, value: u32) -> Result<InstrResult, Need>
-    requires stands { HasStore plot.now part.old }
+fn store<C: Cells>(plot: &Plot, cells: &mut C, reg: u8, value: u32) -> Result<InstrResult, Need>
+    requires may { MayRun (step plot.now (Store reg value)) (HasStore plot.now) (C.run cells.old) }
     requires range { IsInstrInRange (Store reg value) }
-    ensures { RunsProgram (step plot.now (Store reg value)) part.old part.new result }
+    ensures { RunsOn (step plot.now (Store reg value)) (C.run cells.old) (C.run cells.new) result }
 {
-    part.write(plot.register(u32::from(reg)), value);
+    cells.set(plot.register(u32::from(reg)), value);
     Ok(Ok(None))
 }
 
 /// Adds to a register.
-#[tactic(auto, using(of_mem::proofs::Runs::run_then_gives, of_mem::proofs::Runs::run_then_needs))]
-fn add(plot: &Plot, part: &mut Part, reg: u8, value: u32) -> Result<InstrResult, Need>
-    requires stands { HasStore plot.now part.old }
+fn add<C: Cells>(plot: &Plot, cells: &mut C, reg: u8, value: u32) -> Result<InstrResult, Need>
+    requires may { MayRun (step plot.now (Add reg value)) (HasStore plot.now) (C.run cells.old) }
     requires range { IsInstrInRange (Add reg value) }
-    ensures { RunsProgram (step plot.now (Add reg value)) part.old part.new result }
+    ensures { RunsOn (step plot.now (Add reg value)) (C.run cells.old) (C.run cells.new) result }
 {
     let cell = plot.register(u32::from(reg));
-    let sum = part.read(cell)? + value;
+    let sum = cells.get(cell)? + value;
     if sum > GREATEST {
         return Ok(Err(Cause::Overflow));
     }
-    part.write(cell, sum);
+    cells.set(cell, sum);
     Ok(Ok(Some(sum)))
 }
 
 /// Takes off a register.
-#[tactic(auto, using(of_mem::proofs::Runs::run_then_gives, of_mem::proofs::Runs::run_then_needs))]
-fn sub(plot: &Plot, part: &mut Part, reg: u8, value: u32) -> Result<InstrResult, Need>
-    requires stands { HasStore plot.now part.old }
+fn sub<C: Cells>(plot: &Plot, cells: &mut C, reg: u8, value: u32) -> Result<InstrResult, Need>
+    requires may { MayRun (step plot.now (Sub reg value)) (HasStore plot.now) (C.run cells.old) }
     requires range { IsInstrInRange (Sub reg value) }
-    ensures { RunsProgram (step plot.now (Sub reg value)) part.old part.new result }
+    ensures { RunsOn (step plot.now (Sub reg value)) (C.run cells.old) (C.run cells.new) result }
 {
     let cell = plot.register(u32::from(reg));
-    let before = part.read(cell)?;
+    let before = cells.get(cell)?;
     if before < value {
         return Ok(Err(Cause::Short));
     }
-    part.write(cell, before - value);
+    cells.set(cell, before - value);
     Ok(Ok(Some(before - value)))
 }
 
@@ -186,13 +182,12 @@ fn get<C: Cells>(plot: &Plot, cells: &mut C, key: u32) -> Result<InstrResult, Ne
 }
 
 /// Puts a value at a key.
-#[tactic(auto, using(of_mem::proofs::Runs::run_then_gives, of_mem::proofs::Runs::run_then_needs))]
-fn put(plot: &Plot, part: &mut Part, key: u32, value: u32) -> Result<InstrResult, Need>
-    requires stands { HasStore plot.now part.old }
+fn put<C: Cells>(plot: &Plot, cells: &mut C, key: u32, value: u32) -> Result<InstrResult, Need>
+    requires may { MayRun (step plot.now (PutAt key value)) (HasStore plot.now) (C.run cells.old) }
     requires range { IsInstrInRange (PutAt key value) }
-    ensures { RunsProgram (step plot.now (PutAt key value)) part.old part.new result }
+    ensures { RunsOn (step plot.now (PutAt key value)) (C.run cells.old) (C.run cells.new) result }
 {
-    match of_map::put(plot, part, key, value)? {
+    match of_map::put(plot, cells, key, value)? {
         Put::Full => Ok(Err(Cause::NoRoom)),
         Put::New => Ok(Ok(None)),
         Put::Over(before) => Ok(Ok(Some(before))),
@@ -200,12 +195,11 @@ fn put(plot: &Plot, part: &mut Part, key: u32, value: u32) -> Result<InstrResult
 }
 
 /// Deletes a key.
-#[tactic(auto, using(of_mem::proofs::Runs::run_then_gives, of_mem::proofs::Runs::run_then_needs))]
-fn del(plot: &Plot, part: &mut Part, key: u32) -> Result<InstrResult, Need>
-    requires { HasStore plot.now part.old }
-    ensures { RunsProgram (step plot.now (Del key)) part.old part.new result }
+fn del<C: Cells>(plot: &Plot, cells: &mut C, key: u32) -> Result<InstrResult, Need>
+    requires may { MayRun (step plot.now (Del key)) (HasStore plot.now) (C.run cells.old) }
+    ensures { RunsOn (step plot.now (Del key)) (C.run cells.old) (C.run cells.new) result }
 {
-    let value = of_map::del(plot, part, key)?;
+    let value = of_map::del(plot, cells, key)?;
     Ok(Ok(value))
 }
 
@@ -231,26 +225,24 @@ fn compare(found: Option<u32>, value: u32) -> InstrResult
 }
 
 /// Puts an item at the end of a queue.
-#[tactic(auto, using(of_mem::proofs::Runs::run_then_gives, of_mem::proofs::Runs::run_then_needs))]
-fn push(plot: &Plot, part: &mut Part, queue: u8, value: u32) -> Result<InstrResult, Need>
-    requires stands { HasStore plot.now part.old }
+fn push<C: Cells>(plot: &Plot, cells: &mut C, queue: u8, value: u32) -> Result<InstrResult, Need>
+    requires may { MayRun (step plot.now (Push queue value)) (HasStore plot.now) (C.run cells.old) }
     requires range { IsInstrInRange (Push queue value) }
-    ensures { RunsProgram (step plot.now (Push queue value)) part.old part.new result }
+    ensures { RunsOn (step plot.now (Push queue value)) (C.run cells.old) (C.run cells.new) result }
 {
-    if of_queue::push(plot, part, u32::from(queue), value)? {
+    if of_queue::push(plot, cells, u32::from(queue), value)? {
         return Ok(Ok(None));
     }
     Ok(Err(Cause::NoRoom))
 }
 
 /// Takes the front item of a queue.
-#[tactic(auto, using(of_mem::proofs::Runs::run_then_gives, of_mem::proofs::Runs::run_then_needs))]
-fn pop(plot: &Plot, part: &mut Part, queue: u8) -> Result<InstrResult, Need>
-    requires stands { HasStore plot.now part.old }
+fn pop<C: Cells>(plot: &Plot, cells: &mut C, queue: u8) -> Result<InstrResult, Need>
+    requires may { MayRun (step plot.now (Pop queue)) (HasStore plot.now) (C.run cells.old) }
     requires range { IsInstrInRange (Pop queue) }
-    ensures { RunsProgram (step plot.now (Pop queue)) part.old part.new result }
+    ensures { RunsOn (step plot.now (Pop queue)) (C.run cells.old) (C.run cells.new) result }
 {
-    let item = of_queue::pop(plot, part, u32::from(queue))?;
+    let item = of_queue::pop(plot, cells, u32::from(queue))?;
     Ok(Ok(item))
 }
 
@@ -309,14 +301,13 @@ fn next<C: Cells>(plot: &Plot, cells: &mut C, key: u32) -> Result<InstrResult, N
 }
 
 /// Drops the keys below `key`.
-#[tactic(auto, using(of_mem::proofs::Runs::run_then_gives, of_mem::proofs::Runs::run_then_needs))]
-fn drop_below(plot: &Plot, part: &mut Part, key: u32) -> Result<InstrResult, Need>
-    requires { HasStore plot.now part.old }
-    ensures { RunsProgram (step plot.now (DropBelow key)) part.old part.new result }
+fn drop_below<C: Cells>(plot: &Plot, cells: &mut C, key: u32) -> Result<InstrResult, Need>
+    requires may { MayRun (step plot.now (DropBelow key)) (HasStore plot.now) (C.run cells.old) }
+    ensures { RunsOn (step plot.now (DropBelow key)) (C.run cells.old) (C.run cells.new) result }
 {
     if is_large(plot) {
         return Ok(Err(Cause::BadOp));
     }
-    let dropped = of_order::drop_below(plot, part, key)?;
+    let dropped = of_order::drop_below(plot, cells, key)?;
     Ok(Ok(Some(dropped)))
 }

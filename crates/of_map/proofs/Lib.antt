@@ -10,3 +10,6 @@ pub mod Dels
 pub mod Wholes
 pub mod GetsOn
 pub mod Staying
+pub mod FillsOn
+pub mod PutsOn
+pub mod DelsOn

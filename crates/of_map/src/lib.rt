@@ -2,17 +2,16 @@
 //! key and its value.
 #![tactic(auto)]
 
-ghost use Rattle.std.specs.Prelude.{◌≡◌, ◌≢◌, ◌%◌, ◌<◌, ◌≤◌, ℕ, Some, length, IfOk, MatchResult};
+ghost use Rattle.std.specs.Prelude.{◌≡◌, ◌≢◌, ◌<◌, length, IfOk, MatchResult};
 ghost use Rattle.std.specs.FinMap as fin;
-ghost use Rattle.of_mem.specs.Plots.{base, data_cell_count};
-ghost use Rattle.of_mem.specs.Places.{keys_at};
-ghost use Rattle.of_mem.specs.Part.{newest_at};
+ghost use Rattle.of_mem.specs.Plots.{data_cell_count};
+ghost use Rattle.of_mem.specs.Part.{with_known};
 ghost use Rattle.of_mem.specs.OnDemand.{MayRun, RunsOn, RunGoesOn, HasOnlyRead};
-ghost use Rattle.of_mem.specs.Calls.{RunsProgram, HasStore, AnswersOfStore, ActsOnStore};
+ghost use Rattle.of_mem.specs.Calls.{HasStore, AnswersOfStore, ActsOnStore};
 ghost use Rattle.of_map.specs.declared.answers.Put.TheVariants.{Full};
 ghost use Rattle.of_map.specs.MapPrograms.{seek, look_from, get, read_value, put_in_map, change, insert, fill, del, unlink, give_key_back, count_key_down, count};
 ghost use Rattle.of_mem.specs.Programs.{NeedsAt};
-ghost use Rattle.of_map.specs.Found.{HasBucketChain, HasChainFrom, Looks, CanFill, IsPositionKept, IsUnlinked};
+ghost use Rattle.of_map.specs.Found.{HasBucketChain, HasChainFrom, Looks, CanFill, CanCountDown, IsPositionKept, IsUnlinked};
 ghost use Rattle.of_map.specs.Means.{IsPair, PutsValue, after_del};
 
 mod answers;
@@ -77,15 +76,6 @@ fn look<C: Cells>(plot: &Plot, cells: &mut C, key: u32, cell: u32) -> Result<Loo
     Ok(Look::Past(plot.block(block, 2)))
 }
 
-// Seeks a key among the cells that are known.
-fn seek_known(plot: &Plot, part: &mut Part, key: u32) -> Result<Option<Position>, Need>
-    requires { HasBucketChain plot.now part.old key }
-    ensures part { part.new ≡ part.old }
-    ensures runs { RunsProgram (seek plot.now key) part.old part.new result }
-{
-    seek(plot, part, key)
-}
-
 /// Walks towards a key as far as cells are known, and changes nothing that contracts see. An error
 /// names a cell that must be read and is not known.
 pub fn reach(plot: &Plot, part: &mut Part, key: u32) -> Result<(), Need>
@@ -94,7 +84,7 @@ pub fn reach(plot: &Plot, part: &mut Part, key: u32) -> Result<(), Need>
     ensures needs { MatchResult result (λ _. Unit {0})
         (λ need. NeedsAt (seek plot.now key) part.old need.addr) }
 {
-    seek_known(plot, part, key)?;
+    seek(plot, part, key)?;
     Ok(())
 }
 
@@ -128,107 +118,124 @@ fn read_value<C: Cells>(plot: &Plot, cells: &mut C, block: u32) -> Result<Option
 
 /// Puts a value at a key. The answer says which value was there before, if any. It is `Full`
 /// exactly if the key is absent and no block is free, and then nothing is written. An error names a
-/// cell that must be read and is not known.
-#[tactic(auto, using(of_mem::proofs::Runs::run_then_needs))]
-pub fn put(plot: &Plot, part: &mut Part, key: u32, value: u32) -> Result<Put, Need>
-    requires stands { HasStore plot.now part.old }
+/// cell that must be read and that `cells` didn't give.
+pub fn put<C: Cells>(plot: &Plot, cells: &mut C, key: u32, value: u32) -> Result<Put, Need>
+    requires may { MayRun (put_in_map plot.now key value) (HasStore plot.now) (C.run cells.old) }
     requires pair { IsPair key value }
-    ensures runs { RunsProgram (put_in_map plot.now key value) part.old part.new result }
-    ensures puts { PutsValue plot.now part.old part.new key value result }
+    ensures runs { RunsOn (put_in_map plot.now key value) (C.run cells.old) (C.run cells.new)
+        result }
+    ensures puts { PutsValue plot.now
+        (with_known (C.run cells.new).part.known (C.run cells.old).part)
+        (C.run cells.new).part key value result }
 {
-    match seek_known(plot, part, key)? {
-        Some(place) => change(plot, part, place.block, value),
-        None => insert(plot, part, key, value),
+    match seek(plot, cells, key)? {
+        Some(place) => change(plot, cells, place.block, value),
+        None => insert(plot, cells, key, value),
     }
 }
 
 // Changes the value in a block, and answers the value before.
-fn change(plot: &Plot, part: &mut Part, block: u32, value: u32) -> Result<Put, Need>
-    requires fits { length part.old.known ≡ data_cell_count plot.now }
+fn change<C: Cells>(plot: &Plot, cells: &mut C, block: u32, value: u32) -> Result<Put, Need>
+    requires may { MayRun (change plot.now block value)
+        (λ p. length p.known ≡ data_cell_count plot.now) (C.run cells.old) }
     requires block { block < plot.now.blocks }
-    ensures runs { RunsProgram (change plot.now block value) part.old part.new result }
+    ensures runs { RunsOn (change plot.now block value) (C.run cells.old) (C.run cells.new)
+        result }
     ensures over { IfOk result (λ r. r ≢ Full) }
 {
     let cell = plot.block(block, 1);
-    let before = part.read(cell)?;
-    part.write(cell, value);
+    let before = cells.get(cell)?;
+    cells.set(cell, value);
     Ok(Put::Over(before))
 }
 
 // Puts a value at a key that is absent, if a block is free.
-#[tactic(auto, using(of_mem::proofs::Runs::run_then_needs))]
-fn insert(plot: &Plot, part: &mut Part, key: u32, value: u32) -> Result<Put, Need>
-    requires { HasStore plot.now part.old }
-    ensures runs { RunsProgram (insert plot.now key value) part.old part.new result }
-    ensures full { IfOk result (λ r. r ≡ Full → part.new ≡ part.old) }
+fn insert<C: Cells>(plot: &Plot, cells: &mut C, key: u32, value: u32) -> Result<Put, Need>
+    requires { MayRun (insert plot.now key value) (HasStore plot.now) (C.run cells.old) }
+    ensures runs { RunsOn (insert plot.now key value) (C.run cells.old) (C.run cells.new) result }
+    ensures full { IfOk result (λ r. r ≡ Full
+        → HasOnlyRead (C.run cells.old).part (C.run cells.new).part) }
 {
-    match of_alloc::take(plot, part)? {
+    match of_alloc::take(plot, cells)? {
         None => Ok(Put::Full),
-        Some(block) => fill(plot, part, key, value, block),
+        Some(block) => fill(plot, cells, key, value, block),
     }
 }
 
 // Makes a block that was taken the front of its key's bucket.
-fn fill(plot: &Plot, part: &mut Part, key: u32, value: u32, block: u32) -> Result<Put, Need>
-    requires { CanFill plot.now part.old block }
-    ensures runs { RunsProgram (fill plot.now key value block) part.old part.new result }
+fn fill<C: Cells>(plot: &Plot, cells: &mut C, key: u32, value: u32, block: u32) -> Result<Put, Need>
+    requires { MayRun (fill plot.now key value block) (λ p. CanFill plot.now p block)
+        (C.run cells.old) }
+    ensures runs { RunsOn (fill plot.now key value block) (C.run cells.old) (C.run cells.new)
+        result }
     ensures filled { IfOk result (λ r. r ≢ Full) }
 {
-    part.write(plot.block(block, 0), key);
-    part.write(plot.block(block, 1), value);
+    cells.set(plot.block(block, 0), key);
+    cells.set(plot.block(block, 1), value);
     let bucket = plot.bucket(key % plot.buckets());
-    let front = part.read(bucket)?;
-    part.write(plot.block(block, 2), front);
-    part.write(bucket, block + 1);
-    let keys = part.read(plot.keys())?;
-    part.write(plot.keys(), keys + 1);
+    let front = cells.get(bucket)?;
+    cells.set(plot.block(block, 2), front);
+    cells.set(bucket, block + 1);
+    let keys = cells.get(plot.keys())?;
+    cells.set(plot.keys(), keys + 1);
     Ok(Put::New)
 }
 
 /// Deletes a key, and answers the value that it had. None if the key was absent. An error names a
-/// cell that must be read and is not known.
-#[tactic(auto, using(of_mem::proofs::Runs::run_then_needs))]
-pub fn del(plot: &Plot, part: &mut Part, key: u32) -> Result<Option<u32>, Need>
-    requires { HasStore plot.now part.old }
-    ensures runs { RunsProgram (del plot.now key) part.old part.new result }
-    ensures acts { ActsOnStore plot.now part.old part.new result
-        (λ s. fin.get s.map key) (after_del key) }
+/// cell that must be read and that `cells` didn't give.
+pub fn del<C: Cells>(plot: &Plot, cells: &mut C, key: u32) -> Result<Option<u32>, Need>
+    requires { MayRun (del plot.now key) (HasStore plot.now) (C.run cells.old) }
+    ensures runs { RunsOn (del plot.now key) (C.run cells.old) (C.run cells.new) result }
+    ensures acts { ActsOnStore plot.now
+        (with_known (C.run cells.new).part.known (C.run cells.old).part)
+        (C.run cells.new).part result (λ s. fin.get s.map key) (after_del key) }
 {
-    match seek_known(plot, part, key)? {
+    match seek(plot, cells, key)? {
         None => Ok(None),
-        Some(place) => unlink(plot, part, key, place),
+        Some(place) => unlink(plot, cells, key, place),
     }
 }
 
 // Takes a key's block out of its bucket.
-fn unlink(plot: &Plot, part: &mut Part, key: u32, place: Position) -> Result<Option<u32>, Need>
-    requires { IsPositionKept plot.now part.old key place }
-    ensures { RunsProgram (unlink plot.now place) part.old part.new result }
+fn unlink<C: Cells>(
+    plot: &Plot,
+    cells: &mut C,
+    key: u32,
+    place: Position,
+) -> Result<Option<u32>, Need>
+    requires { MayRun (unlink plot.now place) (λ p. IsPositionKept plot.now p key place)
+        (C.run cells.old) }
+    ensures { RunsOn (unlink plot.now place) (C.run cells.old) (C.run cells.new) result }
 {
-    let value = part.read(plot.block(place.block, 1))?;
-    let link = part.read(plot.block(place.block, 2))?;
-    part.write(place.cell, link);
-    give_back(plot, part, place.block, value)
+    let value = cells.get(plot.block(place.block, 1))?;
+    let link = cells.get(plot.block(place.block, 2))?;
+    cells.set(place.cell, link);
+    give_back(plot, cells, place.block, value)
 }
 
 // Gives back a block that is in no bucket any more, and counts one key less.
-#[tactic(auto, using(of_mem::proofs::Runs::run_then_needs))]
-fn give_back(plot: &Plot, part: &mut Part, block: u32, value: u32) -> Result<Option<u32>, Need>
-    requires { IsUnlinked plot.now part.old block }
-    ensures { RunsProgram (give_key_back plot.now block value) part.old part.new result }
+fn give_back<C: Cells>(
+    plot: &Plot,
+    cells: &mut C,
+    block: u32,
+    value: u32,
+) -> Result<Option<u32>, Need>
+    requires { MayRun (give_key_back plot.now block value) (λ p. IsUnlinked plot.now p block)
+        (C.run cells.old) }
+    ensures { RunsOn (give_key_back plot.now block value) (C.run cells.old) (C.run cells.new)
+        result }
 {
-    of_alloc::give(plot, part, block)?;
-    count_down(plot, part, value)
+    of_alloc::give(plot, cells, block)?;
+    count_down(plot, cells, value)
 }
 
 // Counts one key less.
-fn count_down(plot: &Plot, part: &mut Part, value: u32) -> Result<Option<u32>, Need>
-    requires fits { length part.old.known ≡ data_cell_count plot.now }
-    requires keys { (k : ℕ) → newest_at part.old (keys_at (base plot.now)) ≡ Some k → 1 ≤ k }
-    ensures { RunsProgram (count_key_down plot.now value) part.old part.new result }
+fn count_down<C: Cells>(plot: &Plot, cells: &mut C, value: u32) -> Result<Option<u32>, Need>
+    requires { MayRun (count_key_down plot.now value) (CanCountDown plot.now) (C.run cells.old) }
+    ensures { RunsOn (count_key_down plot.now value) (C.run cells.old) (C.run cells.new) result }
 {
-    let keys = part.read(plot.keys())?;
-    part.write(plot.keys(), keys - 1);
+    let keys = cells.get(plot.keys())?;
+    cells.set(plot.keys(), keys - 1);
     Ok(Some(value))
 }
 

@@ -9,17 +9,7 @@ use Rattle.of_mem.specs.Part.{Part}
 use Rattle.of_mem.specs.Programs.{Program, then_do, RunsAs, IsPartOf, StaysBetween, program_answer, memory_after}
 use Rattle.of_mem.specs.Stores.{CellStore}
 use Rattle.of_mem.specs.Calls.{RunsProgram, PlotStandsForStore, AnswersOfStore, HasActedOnStore, ActsOnStore}
-use Rattle.of_mem.proofs.Runs.{run_then_at, run_ended, after_ended}
-
--- the second call goes on where the first one answered r
-pub goes_on : {A B : Type 0} (f : Program A) (g : A → Program B) (p q n : Part) (x r : A) (result : Result B Need) → RunsProgram f p q (Ok x) → x ≡ r → RunsProgram (g r) q n result → RunsProgram (then_do f g) p n result
-goes_on f g p q n x r result first e second =
-    let on = run_then_at f g p q x r first.walk e in
-    record {
-      walk = MatchResult-weaker result second.walk (λ b k. on ∙ k) (λ need k. on ∙ k);
-      known = second.known ∙ first.known;
-      batch = second.batch ∙ first.batch;
-    }
+use Rattle.of_mem.proofs.Runs.{run_ended, after_ended}
 
 -- what a run to the end says of the answer
 pub so_ok : {A : Type 0} (f : Program A) (p q : Part) (R : A → Type 0) (result : Result A Need) → RunsProgram f p q result → ((r : A) → RunsAs f p r q → R r) → IfOk result R

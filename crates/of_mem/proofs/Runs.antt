@@ -150,10 +150,6 @@ run_then_gives f g p q r e = run_then f g p ∙ ap (λ x. chained x (λ r q. run
 pub run_then_needs : {A B : Type 0} (f : Program A) (g : A → Program B) (p : Part) (a : ℕ) → run_program f p ≡ Lacks a → run_program (then_do f g) p ≡ Lacks a
 run_then_needs f g p a e = run_then f g p ∙ ap (λ x. chained x (λ r q. run_program (g r) q)) e
 
--- where the first one's answer is known to be r
-pub run_then_at : {A B : Type 0} (f : Program A) (g : A → Program B) (p q : Part) (x r : A) → run_program f p ≡ Ends x q → x ≡ r → run_program (then_do f g) p ≡ run_program (g r) q
-run_then_at f g p q x r e is = run_then_gives f g p q r (e ∙ ap (λ y. Ends y q) is)
-
 pub answer_then : {A B : Type 0} (f : Program A) (g : A → Program B) (m : ℕ → ℕ) → program_answer (then_do f g) m ≡ program_answer (g (program_answer f m)) (memory_after f m)
 answer_then (Done r) g m = refl
 answer_then (Read a k) g m = answer_then (k (m a)) g m

@@ -1,15 +1,19 @@
 -- Cells on demand: a run asks for one cell after the other, and at each of its reads one more cell
 -- may come to be known.
-use Rattle.std.specs.Prelude.{◌≡◌, ℕ, List, [], length, Option, Result, MatchResult}
+use Rattle.std.specs.Prelude.{◌≡◌, ℕ, List, [], length, Bool, true, false, Option, Result, MatchResult}
 use Rattle.of_mem.specs.declared.part.Need.{Need}
 use Rattle.of_mem.specs.declared.work.RawReply.{RawReply}
-use Rattle.of_mem.specs.Meaning.{Meaning, Needs, KnowsSome, RunsAsWalked}
-use Rattle.of_mem.specs.Part.{Part, Extends, with_known}
-use Rattle.of_mem.specs.Programs.{Program, Done, Read, RunsAs, NeedsAt}
+use Rattle.of_mem.specs.Meaning.{Meaning, Needs, Gives, KnowsSome, RunsAsWalked}
+use Rattle.of_mem.specs.Part.{Part, Extends, overlaid, with_known}
+use Rattle.of_mem.specs.Programs.{Program, Done, Read, Write, RunsAs, NeedsAt}
 
 -- the program that reads one cell and answers its number
 abbrev pub read_cell : ℕ → Program ℕ
 read_cell a = Read a Done
+
+-- the program that writes one cell
+abbrev pub write_cell : ℕ → ℕ → Program (Unit {0})
+write_cell a v = Write a v (Done tt)
 
 -- A run of an operation on its way: its partial memory, which known cells it may come to have, and
 -- which cell the operation as a whole lacks if these cells are known.
@@ -80,3 +84,32 @@ pub record HasReadFrom (M : Meaning) (op : List ℕ) (before after : Running)
   pub part : HasOnlyRead before.part after.part
   pub goes : RunGoesOn before after
   pub walk : RunsAsWalked M after.part.known op result [] old new
+
+-- An operation may be run on cells that it asks for, and writes to them. It has written nothing yet.
+-- Whatever comes to be known is, under the writes of the batch, known of some lawful list of `size`
+-- cells, and the cell that the operation lacks is the one that the run may ask for.
+pub record MayRunFrom (M : Meaning) (lawful : List ℕ → Type 0) (size : ℕ) (op : List ℕ)
+    (c : Running) : Type 0 where
+  pub knows : c.may_know c.part.known
+  pub script : c.part.script ≡ []
+  pub state : (more : List (Option ℕ)) → Extends more c.part.known → c.may_know more
+      → KnowsSome lawful size (overlaid more c.part.batch) × (length more ≡ size)
+  pub lacks : (more : List (Option ℕ)) → Extends more c.part.known → c.may_know more
+      → (a : ℕ) → M.walk (overlaid more c.part.batch) op ≡ Needs a → c.lacks more a
+
+-- the writes that an operation leaves: those that it made, or none if they are to be undone
+abbrev pub writes_left : (undone : Bool) → List (ℕ × ℕ) → List (ℕ × ℕ)
+writes_left true _ = []
+writes_left false es = es
+
+-- An operation was run on cells that it asked for. It ended as a run ends that knows from the start
+-- what is known in the end. The answer says whether its writes are to be undone.
+pub record HasRunFrom (M : Meaning) (op : List ℕ) (before after : Running)
+    (result : Result Bool Need) (old new : RawReply) : Type 0 where
+  pub batch : after.part.batch ≡ before.part.batch
+  pub goes : RunGoesOn before after
+  pub walk : MatchResult result
+      (λ undone. M.walk (overlaid after.part.known after.part.batch) op
+      ≡ Gives (writes_left undone after.part.script) new)
+      (λ need. (M.walk (overlaid after.part.known after.part.batch) op ≡ Needs need.addr)
+      × (new ≡ old))

@@ -4,10 +4,10 @@ use crate::part::{Need, Part};
 use crate::plot::Plot;
 use crate::walk::{Sought, Walk};
 
-/// What a run that writes nothing reads cells from. A read may make a cell known.
+/// What a run reads cells from and writes them to. A read may make a cell known.
 pub trait Cells {
-    ghost use Rattle.std.specs.Prelude.{◌≡◌, ◌<◌, length, None};
-    ghost use Rattle.of_mem.specs.OnDemand.{Running, RunsOn, HasOnlyRead, read_cell};
+    ghost use Rattle.std.specs.Prelude.{◌≡◌, ◌<◌, length, None, Ok};
+    ghost use Rattle.of_mem.specs.OnDemand.{Running, RunsOn, HasOnlyRead, read_cell, write_cell};
     ghost use Rattle.of_mem.specs.Part.{newest_at};
     ghost use Rattle.of_mem.specs.Walks.{HasCome};
 
@@ -23,6 +23,12 @@ pub trait Cells {
             → (run self.old).lacks (run self.old).part.known addr }
         ensures part { HasOnlyRead (run self.old).part (run self.new).part }
         ensures runs { RunsOn (read_cell addr) (run self.old) (run self.new) result };
+
+    /// Adds a write of the script: the cell `addr` gets the number `value`.
+    fn set(&mut self, addr: u32, value: u32)
+        requires below { addr < length (run self.old).part.known }
+        requires knows { (run self.old).may_know (run self.old).part.known }
+        ensures { RunsOn (write_cell addr value) (run self.old) (run self.new) (Ok tt) };
 
     /// How far the walk to `sought` came, if it was kept; otherwise a walk at the front of its
     /// first bucket.
@@ -43,6 +49,11 @@ impl Cells for Part {
     #[inline(always)]
     fn get(&mut self, addr: u32) -> Result<u32, Need> {
         self.read(addr)
+    }
+
+    #[inline(always)]
+    fn set(&mut self, addr: u32, value: u32) {
+        self.write(addr, value);
     }
 
     #[inline(always)]

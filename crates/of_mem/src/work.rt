@@ -4,7 +4,7 @@ ghost use Rattle.std.specs.Prelude.{◌≡◌, ◌+◌, ◌*◌, ◌≤◌, ℕ,
 ghost use Rattle.std.specs.Prelude.{IfSome, IfNone};
 ghost use Rattle.of_mem.specs.declared.work.TheConstants.{MOST_INSTRS};
 ghost use Rattle.of_mem.specs.Meaning.{Meaning, IsSoundMeaning, HasRoom, KnowsSome, RunsAsWalked};
-ghost use Rattle.of_mem.specs.OnDemand.{MayReadFrom, HasReadFrom};
+ghost use Rattle.of_mem.specs.OnDemand.{MayReadFrom, HasReadFrom, MayRunFrom, HasRunFrom};
 ghost use Rattle.of_mem.specs.Part.{overlaid};
 
 use crate::cells::Cells;
@@ -128,6 +128,28 @@ pub trait Work: MaySuspend {
         requires some { 1 ≤ length op.now }
         requires few { length op.now ≤ MOST_INSTRS }
         ensures ran { IfSome result (λ r. HasReadFrom (meaning self.now) op.now
+            (C.run cells.old) (C.run cells.new) r out.old out.new) }
+        ensures none { IfNone result ((cells.new ≡ cells.old) × (out.new ≡ out.old)) }
+    {
+        None
+    }
+
+    /// Runs an operation of 1 to `MOST_INSTRS` words on cells that it asks for one after the other,
+    /// and writes to them. Ok leaves the reply in `out`, and says whether the writes are to be
+    /// undone. An error names the cell that the run needs next and that `cells` didn't give; then
+    /// `out` is as before. None if the work runs no operation in this way; then nothing was read or
+    /// written, and `run` is there.
+    fn run_from<C: Cells>(
+        &self,
+        cells: &mut C,
+        op: &[u64],
+        out: &mut RawReply,
+    ) -> Option<Result<bool, Need>>
+        requires may { MayRunFrom (meaning self.now) (lawful self.now) (size self.now) op.now
+            (C.run cells.old) }
+        requires some { 1 ≤ length op.now }
+        requires few { length op.now ≤ MOST_INSTRS }
+        ensures ran { IfSome result (λ r. HasRunFrom (meaning self.now) op.now
             (C.run cells.old) (C.run cells.new) r out.old out.new) }
         ensures none { IfNone result ((cells.new ≡ cells.old) × (out.new ≡ out.old)) }
     {

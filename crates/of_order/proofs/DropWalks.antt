@@ -1,16 +1,16 @@
 -- The walk that drops keys, on partial memory.
-use Rattle.std.proofs.Common.{◌≡◌, ℕ, suc, ◌+◌, ◌-◌, ◌<◌, ◌≤◌, ◌≢◌, refl, sym, ◌∙◌, ap, subst, arith, ltb, Some, None, List, ◌∷◌, length, Ok, lt-ltb, le-ltb}
+use Rattle.std.proofs.Common.{◌≡◌, ℕ, suc, ◌+◌, ◌-◌, ◌<◌, ◌≤◌, ◌≢◌, refl, sym, ◌∙◌, ap, subst, arith, Some, List, ◌∷◌, length, Ok}
 use Rattle.of_mem.specs.declared.plot.Plot.{Plot}
 use Rattle.of_mem.specs.Plots.{base, data_cell_count}
 use Rattle.of_mem.specs.Places.{bucket_count, keys_at, bucket_at}
 use Rattle.of_mem.specs.Part.{Part, newest_at, write}
-use Rattle.of_mem.specs.Programs.{StaysBetween, Read, Lacks, Ends, run_program, then_do, with_value, memory_after, IsPartOf}
+use Rattle.of_mem.specs.Programs.{StaysBetween, then_do, with_value, memory_after, IsPartOf}
 use Rattle.of_mem.specs.Stores.{CellStore, first_at, link_at}
 use Rattle.of_mem.specs.Calls.{RunsProgram, HasStore}
-use Rattle.of_mem.proofs.Runs.{run_read, run_unknown, run_ended, part_wrote}
+use Rattle.of_mem.proofs.Runs.{run_ended, part_wrote}
 use Rattle.of_alloc.specs.Blocks.{HasOut}
 use Rattle.of_alloc.specs.BlockPrograms.{give, give_program}
-use Rattle.of_order.specs.OrderPrograms.{after_give, drop_key, drop_link, drop_or, drop_pointer, drop_walk, drop_in, drop_in_program, drop_buckets, count_gone_program}
+use Rattle.of_order.specs.OrderPrograms.{drop_in, drop_in_program, drop_buckets, count_gone_program}
 use Rattle.of_order.specs.Dropping.{IsBetweenBuckets, IsInsideBucket, IsDropping, IsDropped}
 use Rattle.of_order.proofs.Walking.{is_suc}
 use Rattle.of_order.proofs.Dropping.{at_block, block_below, stays, leaves, leaves_inside, list_left, block_out}
@@ -111,39 +111,6 @@ pub cell_fits : (plot : Plot) (p : Part) (low i cell f gone : ℕ) → i < bucke
 cell_fits plot p low i cell f gone small h some k a c g is e less =
     let t = leaves_inside (base plot) plot.blocks low i small h.first h.memory cell f gone (f - 1) (here plot p low i cell f gone small h some).0 (w plot p low i cell f gone small h some) plot.few_blocks
     (let key : h.memory (first_at (base plot) (f - 1)) ≡ k = h.part (first_at (base plot) (f - 1)) k (rw is at e) in omega (arith, key, less)) in t.1
-
--- ---- one turn of the walk
-
-module _ (o low n cell gone : ℕ) (p : Part) where
-  pub drop_end : (f : ℕ) → f ≡ 0 → run_program (drop_walk o low (suc n) cell f gone) p ≡ Ends gone p
-  drop_end f z = ap (λ x. run_program (drop_pointer o low (drop_walk o low n) cell gone x) p) z
-
-  drop_block : (f : ℕ) → f ≢ 0 → run_program (drop_walk o low (suc n) cell f gone) p ≡ run_program (Read (first_at o (f - 1)) (drop_key o low (drop_walk o low n) cell (f - 1) gone)) p
-  drop_block f z = ap (λ x. run_program (drop_pointer o low (drop_walk o low n) cell gone x) p) (is_suc f z)
-
-  pub drop_needs_key : (f a b : ℕ) → f ≢ 0 → a ≡ first_at o (f - 1) → (newest_at p a ≡ None) × (b ≡ a) → run_program (drop_walk o low (suc n) cell f gone) p ≡ Lacks b
-  drop_needs_key f a b z is k = rw (k.1, is) (drop_block f z ∙ run_unknown (first_at o (f - 1)) (drop_key o low (drop_walk o low n) cell (f - 1) gone) p (rw is at k.0))
-
-  drop_at_key : (f a k : ℕ) → f ≢ 0 → a ≡ first_at o (f - 1) → newest_at p a ≡ Some k → run_program (drop_walk o low (suc n) cell f gone) p ≡ run_program (Read (link_at o (f - 1)) (drop_link o low (drop_walk o low n) cell (f - 1) gone k)) p
-  drop_at_key f a k z is h = drop_block f z ∙ run_read (first_at o (f - 1)) (drop_key o low (drop_walk o low n) cell (f - 1) gone) p k (rw is at h)
-
-  pub drop_needs_link : (f a k c b : ℕ) → f ≢ 0 → a ≡ first_at o (f - 1) → newest_at p a ≡ Some k → c ≡ link_at o (f - 1) → (newest_at p c ≡ None) × (b ≡ c) → run_program (drop_walk o low (suc n) cell f gone) p ≡ Lacks b
-  drop_needs_link f a k c b z is h too g = rw (g.1, too) (drop_at_key f a k z is h ∙ run_unknown (link_at o (f - 1)) (drop_link o low (drop_walk o low n) cell (f - 1) gone k) p (rw too at g.0))
-
-  drop_both : (f a k c g : ℕ) → f ≢ 0 → a ≡ first_at o (f - 1) → newest_at p a ≡ Some k → c ≡ link_at o (f - 1) → newest_at p c ≡ Some g → run_program (drop_walk o low (suc n) cell f gone) p ≡ run_program (drop_or o (drop_walk o low n) cell (f - 1) gone g (ltb k low)) p
-  drop_both f a k c g z is h too e = drop_at_key f a k z is h ∙ run_read (link_at o (f - 1)) (drop_link o low (drop_walk o low n) cell (f - 1) gone k) p g (rw too at e)
-
-  pub drop_on : (f a k c d g : ℕ) → f ≢ 0 → a ≡ first_at o (f - 1) → newest_at p a ≡ Some k → c ≡ link_at o (f - 1) → newest_at p c ≡ Some g → low ≤ k → d ≡ link_at o (f - 1) → run_program (drop_walk o low (suc n) cell f gone) p ≡ run_program (drop_walk o low n d g gone) p
-  drop_on f a k c d g z is h too e le same =
-      drop_both f a k c g z is h too e ∙ ap (λ t. run_program (drop_or o (drop_walk o low n) cell (f - 1) gone g t) p) (le-ltb k low le)
-      ∙ ap (λ (x : ℕ). run_program (drop_walk o low n x g gone) p) (sym same)
-
-  -- the block leaves
-  pub drop_out : (f a k c g : ℕ) (q : Part) → f ≢ 0 → a ≡ first_at o (f - 1) → newest_at p a ≡ Some k → c ≡ link_at o (f - 1) → newest_at p c ≡ Some g → k < low → q ≡ write p cell g
-      → run_program (drop_walk o low (suc n) cell f gone) p ≡ run_program (then_do (give_program o (f - 1)) (after_give o (drop_walk o low n) cell g gone)) q
-  drop_out f a k c g q z is h too e less same =
-      drop_both f a k c g z is h too e ∙ ap (λ t. run_program (drop_or o (drop_walk o low n) cell (f - 1) gone g t) p) (lt-ltb k low less)
-      ∙ ap (λ (x : Part). run_program (then_do (give_program o (f - 1)) (after_give o (drop_walk o low n) cell g gone)) x) (sym same)
 
 -- ---- one bucket of so many
 

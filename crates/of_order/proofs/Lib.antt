@@ -7,3 +7,4 @@ pub mod Drops
 pub mod DropWalks
 pub mod LeastWalk
 pub mod Asking
+pub mod DropsOn

@@ -1,20 +1,12 @@
 -- The walks on partial memory.
 use Rattle.std.proofs.Common.{◌≡◌, ℕ, suc, ◌+◌, ◌-◌, ◌<◌, ◌≤◌, ◌≢◌, ◌∙◌, ap, arith, refl, Option}
-use Rattle.std.specs.Prelude.{Result}
-use Rattle.std.proofs.lemmas.Result.{MatchResult-weaker}
-use Rattle.of_mem.specs.declared.part.Need.{Need}
 use Rattle.of_mem.specs.Part.{Part}
-use Rattle.of_mem.specs.Programs.{Program, then_do, Ends, run_program}
-use Rattle.of_mem.specs.Calls.{RunsProgram}
+use Rattle.of_mem.specs.Programs.{then_do, Ends, run_program}
 use Rattle.of_order.specs.OrderPrograms.{least_in_program, least_buckets}
 use Rattle.of_order.proofs.Rests.{turn, none_left}
 
 pub is_suc : (f : ℕ) → f ≢ 0 → f ≡ suc (f - 1)
 is_suc f n = omega arith
-
--- a call that ran as a program which a run comes to
-pub comes_to : {A : Type 0} (f g : Program A) (p n q : Part) (result : Result A Need) → run_program f p ≡ run_program g n → n.known ≡ p.known → n.batch ≡ p.batch → RunsProgram g n q result → RunsProgram f p q result
-comes_to f g p n q result e known batch h = record { walk = MatchResult-weaker result h.walk (λ b k. e ∙ k) (λ need k. e ∙ k); known = h.known ∙ known; batch = h.batch ∙ batch }
 
 -- one bucket of so many
 one_more : (o blocks low j i : ℕ) (best : Option ℕ) → least_buckets o blocks low (suc j) i best ≡ then_do (least_in_program o blocks i low best) (least_buckets o blocks low j (i + 1))

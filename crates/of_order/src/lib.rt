@@ -4,7 +4,8 @@
 
 ghost use Rattle.std.specs.Prelude.{◌≡◌, ◌+◌, ◌<◌, length};
 ghost use Rattle.of_mem.specs.Places.{bucket_count};
-ghost use Rattle.of_mem.specs.Calls.{RunsProgram, HasStore, AnswersOfStore, ActsOnStore};
+ghost use Rattle.of_mem.specs.Calls.{HasStore, AnswersOfStore, ActsOnStore};
+ghost use Rattle.of_mem.specs.Part.{with_known};
 ghost use Rattle.of_mem.specs.OnDemand.{MayRun, RunsOn, RunGoesOn, HasOnlyRead};
 ghost use Rattle.of_order.specs.OrderPrograms as program;
 ghost use Rattle.of_mem.specs.Walks.{HasCome, better_of};
@@ -13,7 +14,7 @@ ghost use Rattle.of_order.specs.Means.{least_from, dropped_count, after_drop};
 ghost use Rattle.of_order.specs.Passing.{PassesBlock, PassesBucket};
 ghost use Rattle.of_order.specs.Dropping.{IsDropping, IsDropped};
 
-use of_mem::{Cells, Need, Part, Plot, Sought, Walk};
+use of_mem::{Cells, Need, Plot, Sought, Walk};
 
 /// The least key of the map. None if the map has no key. An error names a cell that must be read
 /// and is not known. Nothing is written.
@@ -127,39 +128,49 @@ fn better(low: u64, key: u32, best: Option<u32>) -> Option<u32>
 }
 
 /// Drops every key below `key`, and answers how many were dropped. An error names a cell that must
-/// be read and is not known.
-pub fn drop_below(plot: &Plot, part: &mut Part, key: u32) -> Result<u32, Need>
-    requires { HasStore plot.now part.old }
-    ensures runs { RunsProgram (program.drop_below plot.now key) part.old part.new result }
-    ensures acts { ActsOnStore plot.now part.old part.new result
-        (dropped_count key) (after_drop key) }
+/// be read and that `cells` didn't give.
+pub fn drop_below<C: Cells>(plot: &Plot, cells: &mut C, key: u32) -> Result<u32, Need>
+    requires { MayRun (program.drop_below plot.now key) (HasStore plot.now) (C.run cells.old) }
+    ensures runs { RunsOn (program.drop_below plot.now key) (C.run cells.old) (C.run cells.new)
+        result }
+    ensures acts { ActsOnStore plot.now
+        (with_known (C.run cells.new).part.known (C.run cells.old).part)
+        (C.run cells.new).part result (dropped_count key) (after_drop key) }
 {
     let mut gone = 0;
     for bucket in 0..plot.buckets() {
-        gone = drop_in(plot, part, bucket, key, gone)?;
+        gone = drop_in(plot, cells, bucket, key, gone)?;
     }
-    count_down(plot, part, gone)
+    count_down(plot, cells, gone)
 }
 
 // Drops the keys of a bucket that are below this one, and answers how many are gone then.
-fn drop_in(plot: &Plot, part: &mut Part, bucket: u32, key: u32, gone: u32) -> Result<u32, Need>
-    requires stands { IsDropping plot.now part.old key bucket gone }
+fn drop_in<C: Cells>(
+    plot: &Plot,
+    cells: &mut C,
+    bucket: u32,
+    key: u32,
+    gone: u32,
+) -> Result<u32, Need>
+    requires may { MayRun (program.drop_in plot.now bucket key gone)
+        (λ p. IsDropping plot.now p key bucket gone) (C.run cells.old) }
     requires bucket { bucket < bucket_count plot.now.blocks }
-    ensures { RunsProgram (program.drop_in plot.now bucket key gone) part.old part.new result }
+    ensures { RunsOn (program.drop_in plot.now bucket key gone) (C.run cells.old)
+        (C.run cells.new) result }
 {
     let mut gone = gone;
     let mut cell = plot.bucket(bucket);
-    let mut pointer = part.read(cell)?;
+    let mut pointer = cells.get(cell)?;
     for step in 0..plot.blocks {
         if pointer == 0 {
             return Ok(gone);
         }
         let block = pointer - 1;
-        let found = part.read(plot.block(block, 0))?;
-        let link = part.read(plot.block(block, 2))?;
+        let found = cells.get(plot.block(block, 0))?;
+        let link = cells.get(plot.block(block, 2))?;
         if found < key {
-            part.write(cell, link);
-            of_alloc::give(plot, part, block)?;
+            cells.set(cell, link);
+            of_alloc::give(plot, cells, block)?;
             gone += 1;
         } else {
             cell = plot.block(block, 2);
@@ -170,13 +181,15 @@ fn drop_in(plot: &Plot, part: &mut Part, bucket: u32, key: u32, gone: u32) -> Re
 }
 
 // Counts so many keys less, and answers how many they are.
-fn count_down(plot: &Plot, part: &mut Part, gone: u32) -> Result<u32, Need>
-    requires { IsDropped plot.now part.old gone }
-    ensures { RunsProgram (program.count_gone plot.now gone) part.old part.new result }
+fn count_down<C: Cells>(plot: &Plot, cells: &mut C, gone: u32) -> Result<u32, Need>
+    requires { MayRun (program.count_gone plot.now gone) (λ p. IsDropped plot.now p gone)
+        (C.run cells.old) }
+    ensures { RunsOn (program.count_gone plot.now gone) (C.run cells.old) (C.run cells.new)
+        result }
 {
     if gone != 0 {
-        let keys = part.read(plot.keys())?;
-        part.write(plot.keys(), keys - gone);
+        let keys = cells.get(plot.keys())?;
+        cells.set(plot.keys(), keys - gone);
     }
     Ok(gone)
 }

@@ -2,13 +2,15 @@
 //! the compiler knows the place of most steps, and their code has no jump by the place. At any
 //! other place the phase ends.
 
-ghost use Rattle.std.specs.Prelude.{◌≡◌, ◌<◌, ◌≤◌, ℕ, OnOk, OnErr, Ok, Some, None, IsTrue, length};
+ghost use Rattle.std.specs.Prelude.{◌≡◌, ◌<◌, ◌≤◌, ℕ, OnOk, OnErr, Ok, Some, None, Bool, false, IsTrue, length};
 ghost use Rattle.of_mem.specs.declared.work.TheConstants.{MOST_INSTRS};
 ghost use Rattle.of_core.specs.Machine.{IsOpen};
-ghost use Rattle.of_core.specs.declared.place.Place.TheVariants.{CopyLog, TryCell};
-ghost use Rattle.of_core.specs.OwedRun.{OwesRun, with_cell_loaded};
+ghost use Rattle.of_core.specs.declared.place.Place.TheVariants.{CopyLog};
+ghost use Rattle.of_core.specs.Fit.{is_scanning};
+ghost use Rattle.of_core.specs.OwedRun.{OwesRun, with_cell_loaded, load_for, run_part};
 
 use super::Caller;
+use super::loading::OfTry;
 use of_brake::{Brake, Steps};
 use of_core::Place;
 use of_mem::Work;
@@ -40,14 +42,14 @@ impl<W: Work> Caller<W> {
         ensures falls { OnOk result
             (steps_left W.meaning self.new < steps_left W.meaning self.old) }
     {
-        if self.turn_owing(place, row, brake, steps)?.is_some() {
-            self.machine.make_run();
+        match self.turn_owing(place, row, brake, steps)? {
+            Some(_) => self.run_owed(row, brake, steps),
+            None => Ok(()),
         }
-        Ok(())
     }
 
-    /// Makes one step, as `turn` does, but for the run of a try: if the step leads to one, the
-    /// machine owes it, and the answer is the word that the step found.
+    /// Makes one step, as `turn` does, but for the run of a try or of a scanned script: if the step
+    /// leads to a run, the machine owes it, and the answer is the word that the step found.
     #[inline(always)]
     pub(super) fn turn_owing<L: Ledger, B: Brake>(
         &mut self,
@@ -69,10 +71,14 @@ impl<W: Work> Caller<W> {
         ensures falls { OnOk result (steps_left W.meaning
             (true_caller W.meaning (owes_run result) self.new) < steps_left W.meaning self.old) }
         ensures owes { IsTrue (owes_run result) → OwesRun W.meaning W.lawful self.new.machine }
-        ensures loaded { (a found : ℕ) → place ≡ TryCell a → result ≡ Ok (Some found)
+        ensures kind { IsTrue (owes_run result)
+            → is_scanning (caller_call self.new).place ≡ is_scanning place }
+        ensures loaded { (in_scan : Bool) (a found : ℕ) → place ≡ load_for in_scan a
+            → result ≡ Ok (Some found)
             → self.new.machine ≡ with_cell_loaded W.meaning self.old.machine a found }
-        ensures over { (a : ℕ) → place ≡ TryCell a → result ≡ Ok None
-            → (caller_call self.new).known ≡ (caller_call self.old).known }
+        ensures over { (in_scan : Bool) (a : ℕ) → place ≡ load_for in_scan a → result ≡ Ok None
+            → run_part in_scan (caller_call self.new) ≡ run_part in_scan (caller_call self.old) }
+        ensures writes { self.new.writes ≡ self.old.writes }
         ensures same { OnErr result (self.new ≡ self.old) }
     {
         let owed = row.step_owing(place, &mut self.member, &mut self.machine, brake)?;
@@ -387,7 +393,7 @@ impl<W: Work> Caller<W> {
         self.read_on(Place::TryRequest, op, row, brake, steps)
     }
 
-    /// Makes a step of a try, and the run to which it leads.
+    /// Makes a step of a try, and the run to which it leads, of the operation as it was given.
     #[inline(always)]
     fn read_on<L: Ledger, B: Brake>(
         &mut self,
@@ -400,6 +406,7 @@ impl<W: Work> Caller<W> {
         requires caller { IsCaller W.meaning row.now self.old }
         requires here { place ≡ (caller_call self.old).place }
         requires open { IsOpen place }
+        requires reads { is_scanning place ≡ false }
         requires op { op.now ≡ (caller_call self.old).op }
         requires few { length op.now ≤ MOST_INSTRS }
         ensures caller { IsCaller W.meaning row.now self.new }
@@ -411,7 +418,7 @@ impl<W: Work> Caller<W> {
             (steps_left W.meaning self.new < steps_left W.meaning self.old) }
     {
         match self.turn_owing(place, row, brake, steps)? {
-            Some(_) => self.run_read(op, row, brake, steps),
+            Some(_) => self.run_on_cells::<L, B, OfTry>(op, row, brake, steps),
             None => Ok(()),
         }
     }

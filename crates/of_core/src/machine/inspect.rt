@@ -3,6 +3,7 @@
 ghost use Rattle.std.specs.Prelude.{◌≡◌, ◌≤◌, map, take};
 ghost use Rattle.of_mem.specs.declared.work.TheConstants.{MOST_INSTRS};
 ghost use Rattle.of_core.specs.Helping.{helped_owner};
+ghost use Rattle.of_core.specs.OwedRun.{owed_words};
 ghost use Rattle.of_core.specs.Inside.{call_value};
 
 use crate::call::Call;
@@ -26,6 +27,19 @@ impl<W: Work> Machine<W> {
         ensures few { result.1 ≤ MOST_INSTRS }
     {
         (padded_words(&self.op), self.op.len())
+    }
+
+    /// The words that a run of the scan runs, or that the run of a try runs, followed by zeros, and
+    /// how many they are.
+    pub fn owed_words(&self, in_scan: bool) -> ([u64; MOST_INSTRS], usize)
+        ensures words { take result.1 result.0 ≡ owed_words in_scan self.now.call }
+        ensures few { result.1 ≤ MOST_INSTRS }
+    {
+        if in_scan {
+            (padded_words(&self.script), self.script.len())
+        } else {
+            (padded_words(&self.op), self.op.len())
+        }
     }
 
     /// The caller whose log the call copies or applies as a helper. None if the call does not help.

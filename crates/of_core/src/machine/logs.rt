@@ -1,6 +1,6 @@
 //! Filling a log and what lies over the known cells.
 
-ghost use Rattle.std.specs.Prelude.{◌≡◌, ◌<◌, ◌≤◌, ◌+◌, ◌-◌, ◌%◌, length, ℕ, List, IfSome, vec_capacity};
+ghost use Rattle.std.specs.Prelude.{◌≡◌, ◌<◌, ◌≤◌, ◌+◌, ◌-◌, ◌%◌, length, ℕ, List, [], IfSome, vec_capacity};
 ghost use Rattle.std.specs.List.{All};
 ghost use Rattle.std.proofs.Common.{take, drop};
 ghost use Rattle.of_cell.specs.declared.shape.TheConstants.{MOST_DATA_CELLS};
@@ -24,6 +24,18 @@ pub fn hand_to_log<W: MaySuspend>(part: &mut Workspace<W>, log: &mut WriteSet)
         log.put(addr, value);
     }
     part.keep();
+}
+
+/// Lets a script that has written nothing write these.
+pub fn put_writes<W: MaySuspend>(part: &mut Workspace<W>, writes: &WriteSet)
+    requires room { writes.now.room ≡ length part.old.known }
+    requires empty { part.old.script ≡ [] }
+    ensures { part.new ≡ record part.old { script = writes.now.entries } }
+{
+    for i in 0..writes.len() {
+        let (addr, value) = writes.entry(i);
+        part.write(addr, value);
+    }
 }
 
 /// Writes the reply cells of the caller whose ticket cell is `row`.

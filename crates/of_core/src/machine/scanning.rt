@@ -5,6 +5,7 @@ ghost use Rattle.std.specs.Prelude.{◌≡◌, ◌<◌, ◌≤◌, ◌+◌, ◌+
 ghost use Rattle.std.specs.Prelude.{vec_len, vec_capacity};
 ghost use Rattle.of_cell.specs.Words.{seq_of, payload_of};
 ghost use Rattle.of_mem.specs.declared.work.TheConstants.{MOST_INSTRS};
+ghost use Rattle.of_mem.specs.Meaning.{Gives};
 ghost use Rattle.of_mem.specs.Part.{overlaid};
 ghost use Rattle.of_core.specs.Machine.{with_cell_known};
 ghost use Rattle.of_core.specs.Inside.{call_value};
@@ -14,11 +15,11 @@ ghost use Rattle.of_core.specs.MachineValue.{machine_setup, machine_after, step_
 ghost use Rattle.of_core.specs.declared.place.Place.TheVariants.{LoadScript, LoadCell};
 
 use crate::call::Call;
-use crate::machine::logs::{hand_to_log, padded_words, put_own};
+use crate::machine::logs::{hand_to_log, padded_words, put_own, put_writes};
 use crate::machine::{Machine, OWN_CELLS};
 use crate::place::Place;
 use of_cell::{payload_of, seq_of};
-use of_mem::{MOST_INSTRS, RawReply, Work};
+use of_mem::{MOST_INSTRS, RawReply, Work, WriteSet};
 
 /// Where a scan goes on after it has passed a caller: at the next caller's announcement if there
 /// are `more` callers, and otherwise at `RaiseOld`, the step before the log is stored.
@@ -154,7 +155,7 @@ impl<W: Work> Machine<W> {
     /// Runs the loaded script on the known cells with the writes of the batch so far. If the run
     /// needs another cell, the machine goes on to load that cell; otherwise the call joins the
     /// batch.
-    fn run(&mut self)
+    pub(super) fn run(&mut self)
         requires scanning { is_scanning self.old.call.place ≡ true }
         requires scan { IsScanning (machine_setup W.meaning self.old) self.old.call }
         requires some { 1 ≤ length self.old.call.script }
@@ -185,5 +186,37 @@ impl<W: Work> Machine<W> {
                 self.place = Place::LoadCell(need.addr);
             }
         }
+    }
+
+    /// Adds the scanned call to the batch, with the writes and the reply of its run. The scan goes
+    /// on with the next caller.
+    pub(super) fn add_run(&mut self, writes: &WriteSet, raw: &RawReply)
+        requires scanning { is_scanning self.old.call.place ≡ true }
+        requires scan { IsScanning (machine_setup W.meaning self.old) self.old.call }
+        requires some { 1 ≤ length self.old.call.script }
+        requires agrees { let m = self.old.call in
+            KnowsState W.lawful self.old (overlaid m.known m.log) }
+        requires room { writes.now.room ≡ self.old.cells }
+        requires gives { let m = self.old.call in
+            (W.meaning self.old.work).walk (overlaid m.known m.log) m.script
+            ≡ Gives writes.now.entries raw.now }
+        ensures { self.new ≡ machine_after W.meaning run_script self.old }
+    {
+        put_writes(&mut self.part, writes);
+        let ticket = seq_of(self.heard);
+        let words = self.script.len();
+        put_own(
+            &mut self.part,
+            self.scan * OWN_CELLS,
+            ticket,
+            words as u32,
+            raw,
+        );
+        hand_to_log(&mut self.part, &mut self.log);
+        let op = self.script.as_slice();
+        add_call(&mut self.calls, self.scan, ticket, op, raw);
+        self.raw = newer_raw(self.scan == self.caller, raw, &self.raw);
+        self.scan += 1;
+        self.place = place_behind(self.scan < self.shape.callers);
     }
 }

@@ -3,7 +3,8 @@ use Rattle.std.proofs.lemmas.Result.{err_from_is_err_and}
 use Rattle.of_mem.specs.Part.{Part}
 use Rattle.of_mem.specs.Plots.{base}
 use Rattle.of_mem.specs.Programs.{Ends, run_program}
-use Rattle.of_mem.specs.Calls.{RunsProgram}
+use Rattle.of_mem.specs.Calls.{RunsProgram, HasStore}
+use Rattle.of_mem.proofs.OnDemand.{may_rest, rests}
 use Rattle.of_script.specs.declared.instr.TheConstants.{MOST_INSTRS}
 use Rattle.of_store.proofs.Values.{none_left}
 use Rattle.of_eval.specs.ScriptPrograms.{InstrResult}
@@ -27,16 +28,17 @@ loop-i-init c = record {
 }
 
 pub run_word-requires : goal.run_word-requires
-run_word-requires c = has_store c.args.plot.now c.loop-i.kept (record c.args.part.now { script = [] }) c.loop-i.part c.loop-i.invariant.goes c.requires.stands refl c.loop-i.invariant.part
+run_word-requires c = may_rest (run_word c.args.plot.now (get_or c.args.op.now c.loop-i.i 0)) (HasStore c.args.plot.now) c.loop-i.part (has_store c.args.plot.now c.loop-i.kept (record c.args.part.now { script = [] }) c.loop-i.part c.loop-i.invariant.goes c.requires.stands refl c.loop-i.invariant.part)
 
 pub returns-in_err-cause-clause-runs : goal.returns-in_err-cause-clause-runs
 returns-in_err-cause-clause-runs c =
     let p = err_from_is_err_and c.from_residual.result c.from_residual.ensures.1 in
+    let r = rests (run_word c.args.plot.now (get_or c.args.op.now c.loop-i.i 0)) c.loop-i.part c.run_word.new.cells _ c.in_err-cause.ensures in
     rw (p.1, p.2) (record {
       walk = ran_so (base c.args.plot.now) c.args.plot.now.blocks c.args.plot.now.few_blocks c.loop-i.kept (record c.args.part.now { script = [] }) c.loop-i.invariant.goes refl c.args.op.now c.loop-i.invariant.of.words c.requires.words.few c.loop-i.i c.loop-i.invariant.done c.loop-i.part c.loop-i.invariant.part
-          ∙ ran_lacks (base c.args.plot.now) c.args.plot.now.blocks (length c.args.op.now) c.args.op.now c.loop-i.i c.loop-i-test.true c.loop-i.kept.values c.loop-i.part c.run_word.new.part _ c.in_err-cause.ensures.walk;
-      known = c.in_err-cause.ensures.known ∙ ap (λ (x : Part). x.known) c.loop-i.invariant.part;
-      batch = c.in_err-cause.ensures.batch ∙ ap (λ (x : Part). x.batch) c.loop-i.invariant.part;
+          ∙ ran_lacks (base c.args.plot.now) c.args.plot.now.blocks (length c.args.op.now) c.args.op.now c.loop-i.i c.loop-i-test.true c.loop-i.kept.values c.loop-i.part c.run_word.new.cells _ r.walk;
+      known = r.known ∙ ap (λ (x : Part). x.known) c.loop-i.invariant.part;
+      batch = r.batch ∙ ap (λ (x : Part). x.batch) c.loop-i.invariant.part;
     })
 
 pub returns-in_err-cause-clause-holds : goal.returns-in_err-cause-clause-holds
@@ -46,13 +48,15 @@ pub returns-in_err-cause-clause-out : goal.returns-in_err-cause-clause-out
 returns-in_err-cause-clause-out c = let p = err_from_is_err_and c.from_residual.result c.from_residual.ensures.1 in rw p.1 c.loop-i.invariant.out
 
 pub returns-in-Err-clause-runs : goal.returns-in-Err-clause-runs
-returns-in-Err-clause-runs c = rw c.abort_in_cells.ensures (record {
-  walk = ran_so (base c.args.plot.now) c.args.plot.now.blocks c.args.plot.now.few_blocks c.loop-i.kept (record c.args.part.now { script = [] }) c.loop-i.invariant.goes refl c.args.op.now c.loop-i.invariant.of.words c.requires.words.few c.loop-i.i c.loop-i.invariant.done c.loop-i.part c.loop-i.invariant.part
-      ∙ ran_aborts (base c.args.plot.now) c.args.plot.now.blocks (length c.args.op.now) c.args.op.now c.loop-i.i c.loop-i-test.true c.loop-i.kept.values c.loop-i.part c.run_word.new.part c.in-Err.cause
-      (omega (arith, c.loop-i.invariant.goes.width, c.requires.words.few, c.loop-i-test.true)) (c.in_ok-cause.ensures.walk ∙ ap (λ (x : InstrResult). Ends x c.run_word.new.part) c.in-Err.is);
-  known = c.in_ok-cause.ensures.known ∙ ap (λ (x : Part). x.known) c.loop-i.invariant.part;
-  batch = c.in_ok-cause.ensures.batch ∙ ap (λ (x : Part). x.batch) c.loop-i.invariant.part;
-})
+returns-in-Err-clause-runs c =
+    let r = rests (run_word c.args.plot.now (get_or c.args.op.now c.loop-i.i 0)) c.loop-i.part c.run_word.new.cells _ c.in_ok-cause.ensures in
+    rw c.abort_in_cells.ensures (record {
+      walk = ran_so (base c.args.plot.now) c.args.plot.now.blocks c.args.plot.now.few_blocks c.loop-i.kept (record c.args.part.now { script = [] }) c.loop-i.invariant.goes refl c.args.op.now c.loop-i.invariant.of.words c.requires.words.few c.loop-i.i c.loop-i.invariant.done c.loop-i.part c.loop-i.invariant.part
+          ∙ ran_aborts (base c.args.plot.now) c.args.plot.now.blocks (length c.args.op.now) c.args.op.now c.loop-i.i c.loop-i-test.true c.loop-i.kept.values c.loop-i.part c.run_word.new.cells c.in-Err.cause
+          (omega (arith, c.loop-i.invariant.goes.width, c.requires.words.few, c.loop-i-test.true)) (r.walk ∙ ap (λ (x : InstrResult). Ends x c.run_word.new.cells) c.in-Err.is);
+      known = r.known ∙ ap (λ (x : Part). x.known) c.loop-i.invariant.part;
+      batch = r.batch ∙ ap (λ (x : Part). x.batch) c.loop-i.invariant.part;
+    })
 
 pub returns-in-Err-clause-holds : goal.returns-in-Err-clause-holds
 returns-in-Err-clause-holds c = holds_so c.args.plot.now c.loop-i.kept (record c.args.part.now { script = [] }) c.args.op.now c.loop-i.invariant.of c.requires.instrs c.loop-i.invariant.goes
@@ -63,10 +67,10 @@ loop-i-preserved c =
     let words : c.loop-i.kept.words ≡ c.args.op.now = h.of.words in
     let done : c.loop-i.kept.done ≡ c.loop-i.i = h.done in
     let here : c.loop-i.part ≡ part_with c.args.part.now.known c.args.part.now.batch c.loop-i.kept.writes = h.part in
-    let runs : RunsProgram (run_word c.args.plot.now (get_or c.args.op.now c.loop-i.i 0)) c.loop-i.part c.run_word.new.part (Ok (Ok c.in-Ok.value)) = rw (← c.in-Ok.is) c.in_ok-cause.ensures in
-    let known : c.run_word.new.part.known ≡ c.args.part.now.known = runs.known ∙ ap (λ (x : Part). x.known) here in
-    let batch : c.run_word.new.part.batch ≡ c.args.part.now.batch = runs.batch ∙ ap (λ (x : Part). x.batch) here in
-    let walk : run_program (run_word c.args.plot.now (get_or c.loop-i.kept.words c.loop-i.kept.done 0)) (part_with c.args.part.now.known c.args.part.now.batch c.loop-i.kept.writes) ≡ Ends (Ok c.in-Ok.value) c.run_word.new.part = rw (words, done, ← here) runs.walk in
+    let runs : RunsProgram (run_word c.args.plot.now (get_or c.args.op.now c.loop-i.i 0)) c.loop-i.part c.run_word.new.cells (Ok (Ok c.in-Ok.value)) = rests (run_word c.args.plot.now (get_or c.args.op.now c.loop-i.i 0)) c.loop-i.part c.run_word.new.cells (Ok (Ok c.in-Ok.value)) (rw (← c.in-Ok.is) c.in_ok-cause.ensures) in
+    let known : c.run_word.new.cells.known ≡ c.args.part.now.known = runs.known ∙ ap (λ (x : Part). x.known) here in
+    let batch : c.run_word.new.cells.batch ≡ c.args.part.now.batch = runs.batch ∙ ap (λ (x : Part). x.batch) here in
+    let walk : run_program (run_word c.args.plot.now (get_or c.loop-i.kept.words c.loop-i.kept.done 0)) (part_with c.args.part.now.known c.args.part.now.batch c.loop-i.kept.writes) ≡ Ends (Ok c.in-Ok.value) c.run_word.new.cells = rw (words, done, ← here) runs.walk in
     let more : c.loop-i.i + 1 < length c.args.op.now = omega (arith, h.below, c.if-i-last.false, c.requires.words.some) in
     let less : c.loop-i.kept.done + 1 < length c.loop-i.kept.words = omega (arith, ap length words, done, more) in
     let few : length c.loop-i.kept.words ≤ MOST_INSTRS = omega (arith, ap length words, c.requires.words.few) in
@@ -74,8 +78,8 @@ loop-i-preserved c =
       of = rw c.advance.ensures (record { callers = h.of.callers; blocks = h.of.blocks; words = words });
       done = rw c.advance.ensures (ap (λ (n : ℕ). n + 1) done);
       below = more;
-      goes = rw c.advance.ensures (goes_more (base c.args.plot.now) c.args.plot.now.blocks c.args.plot.now.few_blocks c.loop-i.kept (record c.args.part.now { script = [] }) h.goes c.run_word.new.part c.in-Ok.value walk batch (of_store c.args.plot.now (record c.args.part.now { script = [] }) c.requires.stands refl) less few);
-      part = rw c.advance.ensures (λ i. part_with (known i) (batch i) c.run_word.new.part.script);
+      goes = rw c.advance.ensures (goes_more (base c.args.plot.now) c.args.plot.now.blocks c.args.plot.now.few_blocks c.loop-i.kept (record c.args.part.now { script = [] }) h.goes c.run_word.new.cells c.in-Ok.value walk batch (of_store c.args.plot.now (record c.args.part.now { script = [] }) c.requires.stands refl) less few);
+      part = rw c.advance.ensures (λ i. part_with (known i) (batch i) c.run_word.new.cells.script);
       room = rw c.advance.ensures h.room;
       out = h.out;
     }
@@ -85,11 +89,11 @@ returns-in-Ok-clause-runs c =
     let h = c.loop-i.invariant in
     let end : length c.args.op.now ≡ c.loop-i.i + 1 = omega (arith, h.below, c.if-i-last.true) in
     let room : c.loop-i.i < length c.loop-i.kept.values = omega (arith, h.goes.width, h.below, c.requires.words.few) in
-    let runs : RunsProgram (run_word c.args.plot.now (get_or c.args.op.now c.loop-i.i 0)) c.loop-i.part c.run_word.new.part (Ok (Ok c.in-Ok.value)) = rw (← c.in-Ok.is) c.in_ok-cause.ensures in
+    let runs : RunsProgram (run_word c.args.plot.now (get_or c.args.op.now c.loop-i.i 0)) c.loop-i.part c.run_word.new.cells (Ok (Ok c.in-Ok.value)) = rests (run_word c.args.plot.now (get_or c.args.op.now c.loop-i.i 0)) c.loop-i.part c.run_word.new.cells (Ok (Ok c.in-Ok.value)) (rw (← c.in-Ok.is) c.in_ok-cause.ensures) in
     rw (c.answers_in_cells.ensures, h.done, ← end) (record {
       walk = ran_so (base c.args.plot.now) c.args.plot.now.blocks c.args.plot.now.few_blocks c.loop-i.kept (record c.args.part.now { script = [] }) h.goes refl c.args.op.now h.of.words c.requires.words.few c.loop-i.i h.done c.loop-i.part h.part
-          ∙ ran_more (base c.args.plot.now) c.args.plot.now.blocks (length c.args.op.now) c.args.op.now c.loop-i.i h.below c.loop-i.kept.values c.loop-i.part c.run_word.new.part c.in-Ok.value room runs.walk
-          ∙ ran_ends (base c.args.plot.now) c.args.plot.now.blocks (length c.args.op.now) c.args.op.now (c.loop-i.i + 1) (set c.loop-i.kept.values c.loop-i.i c.in-Ok.value) c.run_word.new.part
+          ∙ ran_more (base c.args.plot.now) c.args.plot.now.blocks (length c.args.op.now) c.args.op.now c.loop-i.i h.below c.loop-i.kept.values c.loop-i.part c.run_word.new.cells c.in-Ok.value room runs.walk
+          ∙ ran_ends (base c.args.plot.now) c.args.plot.now.blocks (length c.args.op.now) c.args.op.now (c.loop-i.i + 1) (set c.loop-i.kept.values c.loop-i.i c.in-Ok.value) c.run_word.new.cells
           end (omega (arith, end)) (length-set c.loop-i.kept.values c.loop-i.i c.in-Ok.value ∙ h.goes.width) c.requires.words.few
           (none_left c.loop-i.kept.values c.loop-i.i c.in-Ok.value (λ k l. h.goes.past k (omega (arith, l, h.done))));
       known = runs.known ∙ ap (λ (x : Part). x.known) h.part;

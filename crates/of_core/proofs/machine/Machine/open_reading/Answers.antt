@@ -18,8 +18,8 @@ returns-clause-knows g c =
 
 pub returns-clause-owes : goal.returns-clause-owes
 returns-clause-owes g c = λ reads. record {
-  reading = refl;
-  reads = rw (← c.self.view_is) at reads;
+  at_load = (0, refl);
+  reads = λ _. rw (← c.self.view_is) at reads;
   some = rw (← c.self.view_is) at c.requires.some;
   size = ap (λ (p : Part). length p.known) c.clear.ensures ∙ length-replicate (length c.self.inside.part.known) None ∙ c.self.invariant.fit.known;
   knows = returns-clause-knows g c;

@@ -1,4 +1,6 @@
-use Rattle.of_core.specs.MachineValue.{machine_setup}
+use Rattle.std.proofs.Common.{ap}
+use Rattle.of_core.specs.Fit.{is_scanning}
+use Rattle.of_core.specs.MachineValue.{Machine, machine_setup}
 use Rattle.of_core.proofs.Allows.{request_words, request_reads}
 use Rattle.of_core.proofs.machine.Machine.take_request.Goals as goal
 use Rattle.of_core.proofs.machine.Machine.take_request.Goals.{else-self-gt0-via-then-self-gt0+else-found-pack, else-self-gt0-via-else-self-gt0}
@@ -18,3 +20,6 @@ returns-clause-owes g c = λ _.
       | else-self-gt0-via-then-self-gt0+else-found-pack w ↦ c.open_reading.ensures.owes (rw w.self-is reads)
       | else-self-gt0-via-else-self-gt0 w ↦ c.open_reading.ensures.owes (rw w.self-is reads)
     ]
+
+pub returns-clause-kind : goal.returns-clause-kind
+returns-clause-kind g c = λ _. ap (λ (m : Machine _). is_scanning m.call.place) c.open_reading.ensures.comes
