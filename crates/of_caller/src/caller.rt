@@ -2,6 +2,7 @@
 
 mod lagging;
 mod loading;
+mod pause;
 mod phases;
 
 ghost use Rattle.std.specs.Prelude.{◌≡◌, ◌+◌, ◌<◌, ◌≤◌, ◌↔◌, IfOk, IfErr, IsTrue, length};

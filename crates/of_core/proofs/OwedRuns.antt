@@ -1,5 +1,5 @@
 -- Runs that a machine owes: what they see, and what comes of them.
-use Rattle.std.proofs.Common.{◌≡◌, ℕ, ◌+◌, ◌<◌, ◌≤◌, List, [], length, get_or, take, Bool, if◌then◌else◌, true, false, refl, sym, ◌∙◌, ap, subst}
+use Rattle.std.proofs.Common.{◌≡◌, ℕ, ◌+◌, ◌<◌, ◌≤◌, List, [], length, get_or, take, Bool, true, false, refl, sym, ◌∙◌, ap, subst}
 use Rattle.of_mem.specs.WriteSet.{WriteSet, IsWriteSet}
 use Rattle.of_mem.specs.CellMap.{put_pair, put_all}
 use Rattle.of_mem.specs.Meaning.{Meaning, WalkEnd, Needs, Gives, KnowsSome, HasDistinctCells}
@@ -44,11 +44,6 @@ still_reading p false x a q h e = h (ap is_reading q)
 pub reads_at : (p : Place) (b : Bool) (x : ℕ) → p ≡ load_for b x → b ≡ false → is_reading p ≡ true
 reads_at p true x q e = no_case (sym e)
 reads_at p false x q e = ap is_reading q
-
--- the batch that the run sees lies over the known cells
-pub sees_batch : (p : Place) (b : Bool) (x : ℕ) (batch log : List (ℕ × ℕ)) → p ≡ load_for b x → (is_scanning p ≡ true → batch ≡ log) → (is_reading p ≡ true → batch ≡ []) → batch ≡ (if b then log else [])
-sees_batch p true x batch log q scans reads = scans (ap is_scanning q)
-sees_batch p false x batch log q scans reads = reads (ap is_reading q)
 
 -- a run that needs a cell leads to the load of this cell
 lacked_call : (S : Setup) (d : CallState) (b : Bool) (a : ℕ) → S.meaning.walk (overlaid d.known (run_batch b d)) (owed_words b d) ≡ Needs a → record d { place = load_for b a } ≡ make_run b S d

@@ -48,6 +48,9 @@ fn least<C: Cells>(plot: &Plot, cells: &mut C, low: u64) -> Result<Option<u32>, 
     ensures part { HasOnlyRead (C.run cells.old).part (C.run cells.new).part }
     ensures runs { RunsOn (program.least plot.now low) (C.run cells.old) (C.run cells.new) result }
 {
+    // a copy that no call can change: what all addresses have in common is computed once
+    let near = *plot;
+    let plot = &near;
     let start = cells.walk_to(plot, Sought::LeastFrom(low));
     let mut best = pass_bucket(plot, cells, low, start)?;
     for bucket in start.bucket + 1..plot.buckets() {

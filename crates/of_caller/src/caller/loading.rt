@@ -102,7 +102,7 @@ impl<'c, 'r, 'b, 's, W: Work, L: Ledger, B: Brake, K: RunKind, O: LoadArgs<W, B>
         let Course::GoesOn = self.course else {
             return self.caller.machine.newest_for(in_scan, addr);
         };
-        match self.caller.machine.newest(addr) {
+        match self.caller.machine.newest(in_scan, addr) {
             Ok(value) => return Ok(value),
             Err(_) => {}
         }

@@ -11,6 +11,7 @@ ghost use Rattle.of_core.specs.OwedRun.{OwesRun, with_cell_loaded, load_for, run
 
 use super::Caller;
 use super::loading::OfTry;
+use super::pause::pause;
 use of_brake::{Brake, Steps};
 use of_core::Place;
 use of_mem::Work;
@@ -180,6 +181,10 @@ impl<W: Work> Caller<W> {
             return Ok(());
         };
         self.turn(Place::LoadRequest, row, brake, steps)?;
+        if let Place::CopyLog(_) = self.machine.place() {
+            // the transaction's own caller ends it soon: mostly there is nothing left to help with
+            pause();
+        }
         let Place::LoadOwnTicket = self.machine.place() else {
             return Ok(());
         };
@@ -331,6 +336,10 @@ impl<W: Work> Caller<W> {
             return Ok(());
         };
         self.turn(Place::ExchangeCurrent, row, brake, steps)?;
+        if let Place::LoadCurrent = self.machine.place() {
+            // the exchange was lost: another caller's transaction is open now
+            pause();
+        }
         let Place::RaiseCurrent = self.machine.place() else {
             return Ok(());
         };

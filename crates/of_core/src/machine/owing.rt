@@ -168,15 +168,24 @@ impl<W: Work> Machine<W> {
         true
     }
 
-    /// The newest number of a cell, as the owed run sees it before it writes. The error names the
-    /// cell if it is not known.
+    /// The newest number of a cell, as the owed run sees it before it writes. `in_scan` says whether
+    /// the run is one of the scan. The error names the cell if it is not known.
     #[inline(always)]
-    pub fn newest(&self, addr: u32) -> Result<u32, Need>
+    #[tactic(auto, unfolding(of_mem::specs::Part::newest_at))]
+    pub fn newest(&self, in_scan: bool, addr: u32) -> Result<u32, Need>
         requires owes { OwesRun W.meaning W.lawful self.now }
+        requires kind { is_scanning self.now.call.place ≡ in_scan }
         requires below { addr < length self.now.call.known }
-        ensures { ReadsAt (run_part (is_scanning self.now.call.place) self.now.call) addr result }
+        ensures { ReadsAt (run_part in_scan self.now.call) addr result }
     {
-        self.part.part().read(addr)
+        if in_scan {
+            return self.part.part().read(addr);
+        }
+        // a try has no batch, so what is known is the newest
+        match self.part.part().known(addr) {
+            Some(value) => Ok(value),
+            None => Err(Need { addr }),
+        }
     }
 
     /// What `newest` says, for a run that the machine may owe no more.

@@ -45,6 +45,15 @@ newest-requires-clause-owes g c =
     let owes : StillOwes g.W.Work.meaning g.W.Work.lawful g.B.Brake.denials g.B.Brake.left g.B.Brake.answers g.B.Brake.asks l.row.now f c0 l.brake.now l.steps.now = subst (λ (x : Course). Stands g.W.Work.meaning g.W.Work.lawful g.B.Brake.denials g.B.Brake.left g.B.Brake.answers g.B.Brake.asks l.row.now f x c0 l.brake.now l.steps.now) c.in-GoesOn.is k.knows.0 in
     owes.owes
 
+pub newest-requires-clause-kind : goal.newest-requires-clause-kind
+newest-requires-clause-kind g c =
+    let l = c.args.self.now in
+    let k = c.requires.knows in
+    let f = k.first in
+    let c0 = l.caller.now in
+    let owes : StillOwes g.W.Work.meaning g.W.Work.lawful g.B.Brake.denials g.B.Brake.left g.B.Brake.answers g.B.Brake.asks l.row.now f c0 l.brake.now l.steps.now = subst (λ (x : Course). Stands g.W.Work.meaning g.W.Work.lawful g.B.Brake.denials g.B.Brake.left g.B.Brake.answers g.B.Brake.asks l.row.now f x c0 l.brake.now l.steps.now) c.in-GoesOn.is k.knows.0 in
+    owes.kind ∙ sym k.lent.kind ∙ sym c.in_scan-in_scan.ensures
+
 pub returns-in-Ok-clause-runs : goal.returns-in-Ok-clause-runs
 returns-in-Ok-clause-runs g c =
     let l = c.args.self.now in
@@ -52,7 +61,7 @@ returns-in-Ok-clause-runs g c =
     let f = k.first in
     let c0 = l.caller.now in
     let owes : StillOwes g.W.Work.meaning g.W.Work.lawful g.B.Brake.denials g.B.Brake.left g.B.Brake.answers g.B.Brake.asks l.row.now f c0 l.brake.now l.steps.now = subst (λ (x : Course). Stands g.W.Work.meaning g.W.Work.lawful g.B.Brake.denials g.B.Brake.left g.B.Brake.answers g.B.Brake.asks l.row.now f x c0 l.brake.now l.steps.now) c.in-GoesOn.is k.knows.0 in
-    let seen = subst (λ (b : Bool). ReadsAt (run_part b (caller_call c0)) c.args.addr (Ok c.in-Ok.value)) owes.kind (subst (λ (x : _). ReadsAt (run_part (is_scanning (caller_call c0).place) (caller_call c0)) c.args.addr x) c.in-Ok.is c.newest.ensures) in
+    let seen = subst (λ (b : Bool). ReadsAt (run_part b (caller_call c0)) c.args.addr (Ok c.in-Ok.value)) (c.in_scan-in_scan.ensures ∙ k.lent.kind) (subst (λ (x : _). ReadsAt (run_part c.in_scan-in_scan.result (caller_call c0)) c.args.addr x) c.in-Ok.is c.newest.ensures) in
     tells g.W.Work.meaning g.W.Work.lawful g.B.Brake.denials g.B.Brake.left g.B.Brake.answers g.B.Brake.asks l.row.now g.O.LoadArgs.front f k.told (read_cell c.args.addr) g.K.RunKind.scans l.caller.ghost_name l.brake.ghost_name l.steps.ghost_name l.course l.course l.caller.now l.caller.now l.brake.now l.brake.now l.steps.now l.steps.now _ k.lent
     (read_there g.W.Work.meaning g.W.Work.lawful g.B.Brake.denials g.B.Brake.left g.B.Brake.answers g.B.Brake.asks l.row.now f l.course c0 l.brake.now l.steps.now c.args.addr (Ok c.in-Ok.value) k.knows (sym c.written.ensures ∙ c.in_default.is) seen)
 
@@ -63,7 +72,7 @@ lack-place-requires g c =
     let f = k.first in
     let c0 = l.caller.now in
     let owes : StillOwes g.W.Work.meaning g.W.Work.lawful g.B.Brake.denials g.B.Brake.left g.B.Brake.answers g.B.Brake.asks l.row.now f c0 l.brake.now l.steps.now = subst (λ (x : Course). Stands g.W.Work.meaning g.W.Work.lawful g.B.Brake.denials g.B.Brake.left g.B.Brake.answers g.B.Brake.asks l.row.now f x c0 l.brake.now l.steps.now) c.in-GoesOn.is k.knows.0 in
-    let none = subst (λ (b : Bool). newest_at (run_part b (caller_call c0)) c.args.addr ≡ None) owes.kind c.in-Err.ensures.0 in
+    let none = subst (λ (b : Bool). newest_at (run_part b (caller_call c0)) c.args.addr ≡ None) (c.in_scan-in_scan.ensures ∙ k.lent.kind) c.in-Err.ensures.0 in
     let here = subst (λ (b : Bool). newest_at (run_part b (caller_call c0)) c.args.addr ≡ None) (sym k.lent.kind) none in
     record {
       owes = owes.owes;
@@ -105,7 +114,7 @@ returns-in-Ok-Some g c =
     let now = c.turn_owing.new in
     let lacked : Caller g.row.W.Denot = record { member = c0.member; machine = c.lack-place.new.self; writes = c0.writes } in
     let is : lacked ≡ true_caller g.W.Work.meaning true c0 = λ i. record { member = c0.member; machine = c.lack-place.ensures.after i; writes = c0.writes } in
-    let none = subst (λ (b : Bool). newest_at (run_part b (caller_call c0)) c.args.addr ≡ None) owes.kind c.in-Err.ensures.0 in
+    let none = subst (λ (b : Bool). newest_at (run_part b (caller_call c0)) c.args.addr ≡ None) (c.in_scan-in_scan.ensures ∙ k.lent.kind) c.in-Err.ensures.0 in
     let own = sym c.written.ensures ∙ c.in_default.is in
     let t = c.in-Ok-Some.ensures in
     let goes = subst (λ (x : Caller g.row.W.Denot). LeadsOn g.W.Work.meaning g.W.Work.lawful g.B.Brake.denials g.B.Brake.left g.B.Brake.answers g.B.Brake.asks l.row.now x l.brake.now l.steps.now (true_caller g.W.Work.meaning true now.self) now.brake now.steps) is (rw c.in-Ok-Some.field-0-is at t.goes) in
@@ -128,7 +137,7 @@ returns-in-Ok-None g c =
     let now = c.turn_owing.new in
     let lacked : Caller g.row.W.Denot = record { member = c0.member; machine = c.lack-place.new.self; writes = c0.writes } in
     let is : lacked ≡ true_caller g.W.Work.meaning true c0 = λ i. record { member = c0.member; machine = c.lack-place.ensures.after i; writes = c0.writes } in
-    let none = subst (λ (b : Bool). newest_at (run_part b (caller_call c0)) c.args.addr ≡ None) owes.kind c.in-Err.ensures.0 in
+    let none = subst (λ (b : Bool). newest_at (run_part b (caller_call c0)) c.args.addr ≡ None) (c.in_scan-in_scan.ensures ∙ k.lent.kind) c.in-Err.ensures.0 in
     let own = sym c.written.ensures ∙ c.in_default.is in
     let t = c.in-Ok-None.ensures in
     let goes = subst (λ (x : Caller g.row.W.Denot). LeadsOn g.W.Work.meaning g.W.Work.lawful g.B.Brake.denials g.B.Brake.left g.B.Brake.answers g.B.Brake.asks l.row.now x l.brake.now l.steps.now now.self now.brake now.steps) is (rw c.in-Ok-None.field-0-is at t.goes) in
@@ -152,7 +161,7 @@ returns-in-Err-turn_owing g c =
     let now = c.turn_owing.new in
     let lacked : Caller g.row.W.Denot = record { member = c0.member; machine = c.lack-place.new.self; writes = c0.writes } in
     let is : lacked ≡ true_caller g.W.Work.meaning true c0 = λ i. record { member = c0.member; machine = c.lack-place.ensures.after i; writes = c0.writes } in
-    let none = subst (λ (b : Bool). newest_at (run_part b (caller_call c0)) c.args.addr ≡ None) owes.kind c.in-Err.ensures.0 in
+    let none = subst (λ (b : Bool). newest_at (run_part b (caller_call c0)) c.args.addr ≡ None) (c.in_scan-in_scan.ensures ∙ k.lent.kind) c.in-Err.ensures.0 in
     let own = sym c.written.ensures ∙ c.in_default.is in
     let t = c.in-Err-turn_owing.ensures in
     let denied = subst (λ (x : Caller g.row.W.Denot). LeadsToDenial g.W.Work.meaning g.W.Work.lawful g.B.Brake.denials g.B.Brake.left g.B.Brake.answers g.B.Brake.asks l.row.now x l.brake.now l.steps.now now.self now.brake now.steps) is t.denied in
